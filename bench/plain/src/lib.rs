@@ -1,0 +1,139 @@
+//! The seven calls of gindrazoma as an ordinary Rust program by the same method: the baseline of the benchmark.
+//! Answers, refusals and areas are those of include/gindrazoma.h.
+#![no_std]
+#![forbid(unsafe_code)]
+
+mod base;
+mod image;
+mod judge;
+mod norms;
+mod table;
+
+pub use base::{Meter, Steps};
+
+use base::Engine;
+use image::{fill_block, layout_of_list, load};
+use norms::{job_norms, plan_norm_of, plan_refusal, shortest, table_refusal};
+use table::{Table, RULE};
+
+/// The length of the workspace that compare and prime form use.
+pub const WORKSPACE: usize = 65536;
+
+pub fn read_image(image: &[u8], out: &mut [u8]) -> i32 {
+    answer(|| {
+        let (table, _) = checked(image)?;
+        let rules = table.bytes();
+        let out = output(out, 1 + rules.len())?;
+        out[0] = table.jobs as u8;
+        out[1..].copy_from_slice(rules);
+        Ok(out.len() as i32)
+    })
+}
+
+pub fn write_image(jobs: u32, rules: &[u8], out: &mut [u8]) -> i32 {
+    answer(|| {
+        layout_of_list(jobs, rules)?;
+        let table = Table::new(jobs as usize, rules);
+        table_refusal(&job_norms(&table), table.jobs)?;
+        let blocks = rules.len().div_ceil(63 * RULE);
+        let out = output(out, 512 * blocks)?;
+        for (k, block) in out.chunks_exact_mut(512).enumerate() {
+            fill_block(block, jobs as u8, k, blocks, rules);
+        }
+        Ok(out.len() as i32)
+    })
+}
+
+pub fn plan_norm(image: &[u8], plan: &[u8]) -> i32 {
+    answer(|| {
+        let (table, norms) = checked(image)?;
+        plan_refusal(&norms, table.jobs, &[plan])?;
+        Ok(plan_norm_of(&norms, plan) as i32)
+    })
+}
+
+pub fn shortest_run(image: &[u8], plan: &[u8], out: &mut [u8]) -> i32 {
+    answer(|| {
+        let (table, norms) = checked(image)?;
+        plan_refusal(&norms, table.jobs, &[plan])?;
+        let out = output(out, plan_norm_of(&norms, plan))?;
+        shortest(&table, &norms, plan, out);
+        Ok(out.len() as i32)
+    })
+}
+
+pub fn nth_move(image: &[u8], plan: &[u8], index: u32, out: &mut [u8]) -> i32 {
+    answer(|| {
+        let (table, norms) = checked(image)?;
+        plan_refusal(&norms, table.jobs, &[plan])?;
+        let Some((&first, behind)) = plan.split_first() else { return Ok(0) };
+        let mut rules = (0..table.count).filter(|&r| table.job(r) == first as usize);
+        let Some(r) = rules.nth(index as usize) else { return Ok(0) };
+        let after = table.after(r);
+        let out = output(out, 1 + after.len() + behind.len())?;
+        out[0] = table.action(r);
+        out[1..1 + after.len()].copy_from_slice(after);
+        out[1 + after.len()..].copy_from_slice(behind);
+        Ok(out.len() as i32)
+    })
+}
+
+pub fn compare(image: &[u8], left: &[u8], right: &[u8], space: &mut [u8]) -> i32 {
+    compare_counted(image, left, right, space, &mut ())
+}
+
+/// The same, with the steps of the method told to a meter.
+pub fn compare_counted<M: Meter>(image: &[u8], left: &[u8], right: &[u8], space: &mut [u8], meter: &mut M) -> i32 {
+    in_workspace(space, |space| {
+        let (table, norms) = checked(image)?;
+        plan_refusal(&norms, table.jobs, &[left, right])?;
+        if plan_norm_of(&norms, left) != plan_norm_of(&norms, right) {
+            return Ok(0);
+        }
+        let mut engine = Engine::new(&table, &norms, space);
+        engine.run(meter);
+        Ok(engine.equal_forms(left, right) as i32)
+    })
+}
+
+pub fn prime_form(image: &[u8], plan: &[u8], out: &mut [u8], space: &mut [u8]) -> i32 {
+    in_workspace(space, |space| {
+        let (table, norms) = checked(image)?;
+        plan_refusal(&norms, table.jobs, &[plan])?;
+        let mut engine = Engine::new(&table, &norms, space);
+        engine.run(&mut ());
+        let form = engine.form(plan);
+        let out = output(out, form.len())?;
+        out.copy_from_slice(form);
+        Ok(out.len() as i32)
+    })
+}
+
+type Answer<T> = Result<T, i32>;
+
+fn answer(body: impl FnOnce() -> Answer<i32>) -> i32 {
+    body().unwrap_or_else(|refusal| -refusal)
+}
+
+/// Refusal 1, the body on the first 65,536 bytes, and those bytes cleared.
+fn in_workspace(space: &mut [u8], body: impl FnOnce(&mut [u8]) -> Answer<i32>) -> i32 {
+    if space.len() < WORKSPACE {
+        return -1;
+    }
+    let space = &mut space[..WORKSPACE];
+    let result = answer(|| body(space));
+    space.fill(0);
+    result
+}
+
+/// The table of an accepted image, with the norms of its jobs.
+fn checked(image: &[u8]) -> Answer<(Table, [u16; 24])> {
+    let table = load(image)?;
+    let norms = job_norms(&table);
+    table_refusal(&norms, table.jobs)?;
+    Ok((table, norms))
+}
+
+fn output(out: &mut [u8], need: usize) -> Answer<&mut [u8]> {
+    out.get_mut(..need).ok_or(10)
+}

@@ -1,0 +1,106 @@
+//! Norms of jobs and plans, refusals 6 to 9, and shortest runs.
+use crate::table::{Table, JOBS};
+use crate::Answer;
+
+/// A job that is not known to finish.
+pub const NONE: u16 = u16::MAX;
+const JOB_MOST: u16 = 512;
+const PLAN_MOST: usize = 4096;
+
+/// The norm of the jobs after a rule, capped above the most that a job may have.
+pub fn row_norm(norms: &[u16; JOBS], row: &[u8]) -> u16 {
+    let mut sum = 0;
+    for &j in row {
+        let n = norms[j as usize];
+        if n == NONE {
+            return NONE;
+        }
+        sum += n;
+    }
+    sum.min(JOB_MOST)
+}
+
+/// Norms by passes over the rules until nothing changes, capped at 513.
+pub fn job_norms(table: &Table) -> [u16; JOBS] {
+    let mut norms = [NONE; JOBS];
+    loop {
+        let mut changed = false;
+        for r in 0..table.count {
+            let after = row_norm(&norms, table.after(r));
+            let j = table.job(r);
+            if after != NONE && after + 1 < norms[j] {
+                norms[j] = after + 1;
+                changed = true;
+            }
+        }
+        if !changed {
+            return norms;
+        }
+    }
+}
+
+pub fn table_refusal(norms: &[u16; JOBS], jobs: usize) -> Answer<()> {
+    if norms[..jobs].contains(&NONE) {
+        return Err(6);
+    }
+    if norms[..jobs].iter().any(|&n| n > JOB_MOST) {
+        return Err(7);
+    }
+    Ok(())
+}
+
+/// Refusals 8 and 9, each over all plans before the next.
+pub fn plan_refusal(norms: &[u16; JOBS], jobs: usize, plans: &[&[u8]]) -> Answer<()> {
+    if plans.iter().any(|p| p.iter().any(|&j| j as usize >= jobs)) {
+        return Err(8);
+    }
+    if plans.iter().any(|p| plan_norm_of(norms, p) > PLAN_MOST) {
+        return Err(9);
+    }
+    Ok(())
+}
+
+/// The norm of a plan, or some number above 4,096.
+pub fn plan_norm_of(norms: &[u16; JOBS], plan: &[u8]) -> usize {
+    let mut sum = 0;
+    for &j in plan {
+        sum += norms[j as usize] as usize;
+        if sum > PLAN_MOST {
+            break;
+        }
+    }
+    sum
+}
+
+/// For each job the first rule that lowers its norm by one.
+pub fn lowering_rules(table: &Table, norms: &[u16; JOBS]) -> [u8; JOBS] {
+    let mut lowering = [u8::MAX; JOBS];
+    for r in 0..table.count {
+        let j = table.job(r);
+        if lowering[j] == u8::MAX && row_norm(norms, table.after(r)) + 1 == norms[j] {
+            lowering[j] = r as u8;
+        }
+    }
+    lowering
+}
+
+/// Writes the moves of a shortest run; the output is as long as the plan's norm.
+pub fn shortest(table: &Table, norms: &[u16; JOBS], plan: &[u8], out: &mut [u8]) {
+    let lowering = lowering_rules(table, norms);
+    let mut stack = [0; JOB_MOST as usize + 4];
+    let mut at = 0;
+    for &first in plan {
+        let mut height = 1;
+        stack[0] = first;
+        while height > 0 {
+            height -= 1;
+            let r = lowering[stack[height] as usize] as usize;
+            out[at] = table.action(r);
+            at += 1;
+            for &j in table.after(r).iter().rev() {
+                stack[height] = j;
+                height += 1;
+            }
+        }
+    }
+}

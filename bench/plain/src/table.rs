@@ -1,0 +1,42 @@
+//! A table: a job count and 8-byte rules.
+
+pub const RULE: usize = 8;
+pub const RULES: usize = 252;
+pub const JOBS: usize = 24;
+
+pub struct Table {
+    pub jobs: usize,
+    pub count: usize,
+    bytes: [u8; RULE * RULES],
+}
+
+impl Table {
+    pub fn new(jobs: usize, rules: &[u8]) -> Table {
+        let mut table = Table { jobs, count: 0, bytes: [0; RULE * RULES] };
+        table.push(rules);
+        table
+    }
+
+    pub fn push(&mut self, rules: &[u8]) {
+        let at = self.count * RULE;
+        self.bytes[at..at + rules.len()].copy_from_slice(rules);
+        self.count += rules.len() / RULE;
+    }
+
+    pub fn bytes(&self) -> &[u8] {
+        &self.bytes[..self.count * RULE]
+    }
+
+    pub fn job(&self, r: usize) -> usize {
+        self.bytes[r * RULE] as usize
+    }
+
+    pub fn action(&self, r: usize) -> u8 {
+        self.bytes[r * RULE + 1]
+    }
+
+    pub fn after(&self, r: usize) -> &[u8] {
+        let at = r * RULE;
+        &self.bytes[at + 3..at + 3 + self.bytes[at + 2] as usize]
+    }
+}

@@ -1,0 +1,158 @@
+//! Tables and pairs of plans to time.
+use outside::rng::Rng;
+use outside::second::Second;
+use outside::shapes::Made;
+use outside::table::{rule, Plan, Rule};
+
+pub struct Input {
+    pub name: String,
+    pub image: Vec<u8>,
+    pub pairs: Vec<(Plan, Plan)>,
+}
+
+const NORM: u64 = 4096;
+
+/// Pairs of plans of norm 4,096, same and apart in turn. None if the table has no such plans that are apart.
+fn pairs(rng: &mut Rng, made: &Made, count: usize) -> Option<Vec<(Plan, Plan)>> {
+    let second = Second::new(&made.table);
+    let mut pairs = Vec::new();
+    for i in 0..count {
+        let p = made.plan_of_norm(rng, NORM);
+        let q = made.rewritten(rng, &p);
+        if i % 2 == 0 {
+            pairs.push((p, q));
+            continue;
+        }
+        let apart = (0..50).map(|_| made.perturbed(rng, &q)).find(|q| !second.same(&p, q))?;
+        pairs.push((p, apart));
+    }
+    Some(pairs)
+}
+
+/// Pairs of norm 4,096 whatever they are.
+fn some_pairs(rng: &mut Rng, made: &Made, count: usize) -> Vec<(Plan, Plan)> {
+    (0..count)
+        .map(|i| {
+            let p = made.plan_of_norm(rng, NORM);
+            let q = made.rewritten(rng, &p);
+            let q = if i % 2 == 0 { q } else { made.perturbed(rng, &q) };
+            (p, q)
+        })
+        .collect()
+}
+
+fn input(name: &str, made: &Made, pairs: Vec<(Plan, Plan)>) -> Input {
+    Input { name: name.to_string(), image: made.table.image(), pairs }
+}
+
+fn tables(rng: &mut Rng, name: &str, jobs: usize, rules: usize, count: usize, each: usize) -> Vec<Input> {
+    let mut inputs = Vec::new();
+    while inputs.len() < count {
+        let made = Made::of_size(rng, jobs, rules);
+        if let Some(pairs) = pairs(rng, &made, each) {
+            inputs.push(input(name, &made, pairs));
+        }
+    }
+    inputs
+}
+
+/// 1,000 comparisons each over tables of 24 jobs: 40 rules, 252 rules.
+pub fn light_and_full(rng: &mut Rng) -> Vec<(&'static str, Vec<Input>)> {
+    let light = tables(rng, "light", 24, 40, 20, 50);
+    let full = tables(rng, "full", 24, 252, 20, 50);
+    vec![("24 jobs, 40 rules", light), ("24 jobs, 252 rules", full)]
+}
+
+/// One of those tables, with a few pairs.
+pub fn one(rng: &mut Rng, rules: usize) -> Input {
+    tables(rng, "one", 24, rules, 1, 4).swap_remove(0)
+}
+
+pub fn growth(rng: &mut Rng, jobs: usize, rules: usize) -> Vec<Input> {
+    let mut inputs = Vec::new();
+    while inputs.len() < 5 {
+        let made = Made::of_size(rng, jobs, rules);
+        let pairs = some_pairs(rng, &made, 10);
+        inputs.push(input("growth", &made, pairs));
+    }
+    inputs
+}
+
+/// Tables that make the method work.
+pub fn hostile(rng: &mut Rng) -> Vec<Input> {
+    let two = two_primes();
+    let made = vec![
+        ("chain of norm 1, 47 rules", Made::of_table(chain(0))),
+        ("chain of norm 1, 252 rules", Made::of_table(chain(252))),
+        ("words over 2 primes, 252 rules", Made::of_words(rng, &two, words_over(2, 24), 252)),
+        ("words over 3 primes, 252 rules", Made::of_words(rng, &three_primes(), words_over(3, 24), 252)),
+        ("powers of 1 prime, 252 rules", Made::of_words(rng, &two[..1], powers(24), 252)),
+        ("norms up to 512, 24 rules", Made::of_words(rng, &two[..1], long_powers(), 0)),
+        ("norms up to 512, 252 rules", Made::of_words(rng, &two[..1], long_powers(), 252)),
+        ("long rows, last job differs", Made::of_words(rng, &two, long_rows(), 252)),
+    ];
+    let mut inputs = Vec::new();
+    for (name, made) in made {
+        let made = made.unwrap_or_else(|| panic!("{name}: no such table"));
+        let pairs = some_pairs(rng, &made, 6);
+        inputs.push(input(name, &made, pairs));
+    }
+    inputs
+}
+
+/// Job k: a; b, then job k-1. Told apart one a round. Filled up with rules that match, before those that do not.
+fn chain(fill: usize) -> outside::table::Table {
+    let mut rules: Vec<Rule> = (0..24).map(|k| rule(k, 97, &[])).collect();
+    let spare = fill.saturating_sub(47) / 24;
+    for i in 0..spare {
+        rules.extend((0..24).map(|k| rule(k, 99 + (i / 2) as u8, &[0, 0, 0, 0][..i % 5])));
+    }
+    rules.extend((1..24).map(|k| rule(k, 98, &[k - 1])));
+    outside::table::Table { jobs: 24, rules }
+}
+
+/// Two primes of norm 1 with equal moves, apart by what follows.
+fn two_primes() -> Vec<Rule> {
+    vec![rule(0, 97, &[]), rule(0, 97, &[0, 0]), rule(1, 97, &[]), rule(1, 97, &[0, 1]), rule(1, 97, &[1])]
+}
+
+fn three_primes() -> Vec<Rule> {
+    let mut rules = two_primes();
+    rules.extend([rule(2, 97, &[]), rule(2, 97, &[0, 2]), rule(2, 97, &[1, 1]), rule(2, 97, &[2])]);
+    rules
+}
+
+/// The words over so many primes by length, as many as there are jobs.
+fn words_over(primes: u8, jobs: usize) -> Vec<Plan> {
+    let mut words: Vec<Plan> = (0..primes).map(|p| vec![p]).collect();
+    let mut at = 0;
+    while words.len() < jobs {
+        for p in 0..primes {
+            let longer = [&[p], &words[at][..]].concat();
+            words.push(longer);
+        }
+        at += 1;
+    }
+    words.truncate(jobs);
+    words
+}
+
+fn powers(jobs: usize) -> Vec<Plan> {
+    (1..=jobs).map(|n| vec![0; n]).collect()
+}
+
+/// Powers up to 512: twice a length and one more, and one more again.
+fn long_powers() -> Vec<Plan> {
+    let lens = [1, 3, 7, 15, 31, 63, 127, 255, 511, 512, 2, 6, 14, 30, 62, 126, 254, 510, 8, 16, 32, 64, 128, 256];
+    lens.iter().map(|&n| vec![0; n]).collect()
+}
+
+/// Rows of the first prime, and such rows with the second prime at the end.
+fn long_rows() -> Vec<Plan> {
+    let mut words = vec![vec![0], vec![1]];
+    words.extend([3, 7, 15, 31, 63, 127, 255].map(|n| vec![0; n]));
+    for n in [1, 3, 7, 15, 31, 63, 127, 255, 511, 2, 4, 8, 16, 32, 64] {
+        words.push([vec![0; n], vec![1]].concat());
+    }
+    words
+}

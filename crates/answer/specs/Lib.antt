@@ -1,0 +1,2 @@
+-- What calls give back and leave behind.
+pub mod Answer

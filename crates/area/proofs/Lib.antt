@@ -1,0 +1,2 @@
+-- Laws of bytes put into an area.
+pub mod Puts

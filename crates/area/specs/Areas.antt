@@ -1,0 +1,8 @@
+-- Bytes put into an area. Assumes nothing: these are definitions.
+use mathlib.Core.List.{List, _++_}
+use Prim.Native.Nat.{ℕ, _+_}
+use lib.ListN.{length, take, drop}
+
+-- an area with new bytes at a place
+unfoldable pub put : (at : ℕ) → (new area : List ℕ) → List ℕ
+put i new xs = take i xs ++ new ++ drop (i + length new) xs

@@ -1,0 +1,2 @@
+-- What the functions over a base ask and give.
+pub mod Held

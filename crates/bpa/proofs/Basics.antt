@@ -1,0 +1,7 @@
+-- Tests, lists of jobs, plans, moves and the order of jobs.
+pub mod Cases
+pub mod EachJob
+pub mod Counting
+pub mod Plans
+pub mod Moves
+pub mod Order

@@ -1,0 +1,8 @@
+-- Norms by rounds are the fewest moves.
+pub mod KnownPlans
+pub mod NormRounds
+pub mod NormStable
+pub mod NormExact
+pub mod GoodTable
+pub mod NormFewest
+pub mod NormCap

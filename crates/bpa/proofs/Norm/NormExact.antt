@@ -1,0 +1,94 @@
+-- The norm of a plan is the length of a shortest run to the empty plan, and is missing exactly if there is none. Assumes nothing.
+use mathlib.Core.Path.{_≡_, refl, sym, ap, _∙_, subst}
+use mathlib.Core.Bool.{true, false, true≢false}
+use mathlib.Core.List.{List, [], _∷_, _++_}
+use mathlib.Core.Logic.{_↔_}
+use Prim.Native.Nat.{ℕ, zero, suc, _+_, _≤_, _<_}
+use native.Mathlib.Decide.{decLt}
+use native.Mathlib.Omega.{arith}
+use lib.ListN.{length, getD}
+use Rattle.bpa.specs.Plans.{Table, over, HasRule, Step, Runs, empty-run, longer-run}
+use Rattle.bpa.specs.Norms.{sum-of, all-known, norms, norm, Fewest, Endless}
+use Rattle.bpa.proofs.Basics.Plans.{over-head, over-tail, over-append, over-one, sum-append, sum-one}
+use Rattle.bpa.proofs.Norm.NormRounds.{Found, By-rule, next-by-rule, next-least}
+use Rattle.bpa.proofs.Norm.KnownPlans.{known-parts, known-cons, known-append, known-split}
+use Rattle.bpa.proofs.Norm.NormStable.{norms-stable}
+
+module _ (t : Table) where
+  -- a job's norm comes from a rule, and no rule gives a lower one
+  pub job-by-rule : (j : ℕ) → 0 < getD (norms t) j 0 → By-rule j (norms t) (t .rules) (getD (norms t) j 0)
+  job-by-rule j = rw (norms-stable t) at (next-by-rule t (norms t) j)
+
+  pub job-least : (j a : ℕ) (w : List ℕ) → j < t .jobs → HasRule t j a w → all-known (norms t) w ≡ true →
+      Found (suc (sum-of (norms t) w)) (getD (norms t) j 0)
+  job-least j a w h r k = rw (norms-stable t) at (next-least t (norms t) j a w h r k)
+
+  -- a plan whose jobs have norms has a run as long as its norm
+  run-for : (n : ℕ) (p : List ℕ) → all-known (norms t) p ≡ true → n ≡ sum-of (norms t) p →
+      (run : List ℕ) × Runs t p run [] × (length run ≡ n)
+  unfolding sum-of
+  run-for zero [] k e = ([], empty-run [], refl)
+  run-for zero (j ∷ js) k e = absurd (omega (arith, known-parts (norms t) j js k .0))
+  run-for (suc n) [] k e = absurd (omega arith)
+  run-for (suc n) (j ∷ js) k e =
+      let (a, b) = known-parts (norms t) j js k in
+      let r = job-by-rule j a in
+      let l = known-append (norms t) (r .after) js (r .known) b in
+      let s = run-for n (r .after ++ js) l (omega (arith, r .norm, sum-append (norms t) (r .after) js)) in
+      (r .move ∷ s .0, longer-run (j ∷ js) (r .after ++ js) (r .move) (s .0) [] (r .after, r .rule, refl) (s .1), ap suc (s .2))
+
+  pub norm-run : (p : List ℕ) → all-known (norms t) p ≡ true → (run : List ℕ) × Runs t p run [] × (length run ≡ norm t p)
+  unfolding norm
+  norm-run p k = run-for (sum-of (norms t) p) p k refl
+
+module _ (t : Table) (closed : (j a : ℕ) (w : List ℕ) → HasRule t j a w → over t w ≡ true) where
+  pub closed-step : (p q : List ℕ) (a : ℕ) → over t p ≡ true → Step t p a q → over t q ≡ true
+  closed-step [] q a o s = absurd s
+  closed-step (j ∷ js) q a o (w, r, e) =
+      subst (λ l. over t l ≡ true) (sym e) (over-append t w js (closed j a w r) (over-tail t j js o))
+
+  step-known : (p q : List ℕ) (a : ℕ) → over t p ≡ true → Step t p a q → all-known (norms t) q ≡ true →
+      (all-known (norms t) p ≡ true) × (sum-of (norms t) p ≤ suc (sum-of (norms t) q))
+  unfolding sum-of
+  step-known [] q a o s k = absurd s
+  step-known (j ∷ js) q a o (w, r, e) k =
+      let (b, c) = known-split (norms t) w js (subst (λ l. all-known (norms t) l ≡ true) e k) in
+      let (d, f) = job-least t j a w (over-head t j js o) r b in
+      (known-cons (norms t) j js d c, omega (arith, sum-append (norms t) w js, ap (sum-of (norms t)) e))
+
+  run-known : {p run end : List ℕ} → Runs t p run end → over t p ≡ true → all-known (norms t) end ≡ true →
+      (all-known (norms t) p ≡ true) × (sum-of (norms t) p ≤ length run + sum-of (norms t) end)
+  run-known (empty-run p) o k = (k, omega arith)
+  run-known (longer-run p q a more end s r) o k =
+      let (b, c) = run-known r (closed-step p q a o s) k in
+      let (d, f) = step-known p q a o s b in
+      (d, omega arith)
+
+  run-plan : {p run : List ℕ} → Runs t p run [] → over t p ≡ true → (all-known (norms t) p ≡ true) × (norm t p ≤ length run)
+  unfolding norm sum-of all-known
+  run-plan r o = let (k, l) = run-known r o refl in (k, omega arith)
+
+  pub plan-norm : (p : List ℕ) → over t p ≡ true → all-known (norms t) p ≡ true → Fewest t p (norm t p)
+  plan-norm p o k = (norm-run t p k, λ run r. run-plan r o .1)
+
+  pub plan-without : (p : List ℕ) → over t p ≡ true → all-known (norms t) p ≡ false → Endless t p
+  plan-without p o k run r = true≢false (sym (run-plan r o .0) ∙ k)
+
+  pub job-norm : (j : ℕ) → j < t .jobs → 0 < getD (norms t) j 0 → Fewest t (j ∷ []) (getD (norms t) j 0)
+  unfolding norm all-known
+  job-norm j h k =
+      subst (Fewest t (j ∷ [])) (sum-one (norms t) j) (plan-norm (j ∷ []) (over-one t j h) (known-cons (norms t) j [] k refl))
+
+  pub job-without : (j : ℕ) → j < t .jobs → (getD (norms t) j 0 ≡ 0) ↔ Endless t (j ∷ [])
+  unfolding all-known
+  job-without j h = (none, missing)
+    where
+      none : getD (norms t) j 0 ≡ 0 → Endless t (j ∷ [])
+      none e run r = omega (arith, known-parts (norms t) j [] (run-plan r (over-one t j h) .0) .0)
+
+      decided : Endless t (j ∷ []) → Dec (0 < getD (norms t) j 0) → getD (norms t) j 0 ≡ 0
+      decided n (yes k) = let ((run, r, e), l) = job-norm j h k in absurd (n run r)
+      decided n (no k) = omega arith
+
+      missing : Endless t (j ∷ []) → getD (norms t) j 0 ≡ 0
+      missing n = decided n (decLt 0 (getD (norms t) j 0))

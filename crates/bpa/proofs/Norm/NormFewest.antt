@@ -1,0 +1,12 @@
+-- In a good table the norm of a plan is the fewest moves to the empty plan. Assumes nothing.
+use mathlib.Core.Path.{_≡_}
+use mathlib.Core.Bool.{true}
+use mathlib.Core.List.{List}
+use Prim.Native.Nat.{ℕ}
+use Rattle.bpa.specs.Plans.{Table, over}
+use Rattle.bpa.specs.Norms.{norm, Fewest, table-good}
+use Rattle.bpa.proofs.Norm.NormExact.{plan-norm}
+use Rattle.bpa.proofs.Norm.GoodTable.{plan-known, good-closed, good-finite}
+
+pub norm-fewest : (t : Table) → table-good t ≡ true → (p : List ℕ) → over t p ≡ true → Fewest t p (norm t p)
+norm-fewest t g p o = plan-norm t (good-closed t g) p o (plan-known t (good-finite t g) p o)

@@ -1,0 +1,2 @@
+-- What the method asks of its tables.
+pub mod Ready

@@ -1,0 +1,2 @@
+-- Laws of the prime rows of a table.
+pub mod Tables

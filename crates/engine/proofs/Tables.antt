@@ -1,0 +1,101 @@
+-- From good norms to the prime rows, and from these to the answers. Assumes nothing.
+use mathlib.Core.Path.{_≡_, refl, sym, ap, _∙_}
+use mathlib.Core.Bool.{Bool, true}
+use mathlib.Core.List.{List, _++_}
+use Prim.Native.Nat.{ℕ, _≤_, _<_}
+use native.Mathlib.Omega.{arith}
+use lib.IntN.{ℤ, pos, negsuc}
+use lib.ListN.{length, drop}
+use Rattle.bpa.specs.Plans.{all-below, over}
+use Rattle.bpa.specs.Norms.{sum-of, Good}
+use Rattle.bpa.specs.Method.{expand, prime-rows, final-base, same, prime-form}
+use Rattle.bpa.proofs.Base.ExactBase.{Exact, exact-base}
+use Rattle.rules.specs.Places.{table-of}
+use Rattle.norm.specs.NormArrays.{GoodNorms}
+use Rattle.refusal.proofs.Accepted.{array-good}
+use Rattle.prepare.specs.Prepared.{Normed, Lowered}
+use Rattle.candidate.specs.Ready.{Ready}
+use Rattle.rows.specs.Region.{row, Within}
+use Rattle.rows.specs.Replacing.{NewRows}
+use Rattle.judge.specs.Judging.{byte-base}
+use Rattle.base.specs.Held.{Final}
+use Rattle.form.specs.Written.{Tells, Readable}
+use Rattle.form.proofs.Expanding.{form-long, within-readable}
+use Rattle.prime_table.proofs.Forms.{exact-agrees, form-fits, form-is, answer-is}
+use Rattle.answer.specs.Answer.{Writes}
+use Rattle.answer.proofs.Writing.{writes-short, writes-bytes}
+use Rattle.engine.specs.Engine.{PrimeRows}
+
+module _ (n : ℕ) (rs ns : List ℕ) (g : GoodNorms n rs ns) where
+  good : Good (table-of n rs) ns
+  good = array-good (table-of n rs) ns (g .good) (g .exact)
+
+  pub normed : Normed n rs ns
+  normed = record { list = g .list; good = good; small = λ j h. g .exact .few j }
+
+  pub ready : (low : List ℕ) → Lowered n rs ns low → Ready n rs ns low
+  ready low l = record {
+    list = g .list;
+    good = good;
+    small = λ j h. g .exact .few j;
+    low-place = l .inside;
+    low-rule = l .after;
+  }
+
+  -- THE PRIME ROWS by the final base
+  pub prime-rows-are : (base lens region : List ℕ) → Final n rs ns base →
+      NewRows n lens region (prime-rows (table-of n rs) ns (byte-base base)) → PrimeRows (table-of n rs) ns lens region
+  unfolding table-of
+  prime-rows-are base lens region f r =
+      let t = table-of n rs in
+      let b = byte-base base in
+      let x : Exact t ns b = exact-agrees t ns (final-base t ns) b (exact-base t ns good) (f .is) in
+      record {
+        within = r .within;
+        form = form-is t ns good b lens region r (g .good) x;
+        short = form-fits t ns good b lens region r;
+        told = answer-is t ns good b lens region r (g .good) x;
+      }
+
+-- WHAT THE PRIME ROWS ANSWER
+module _ (n : ℕ) (rs ns lens region : List ℕ) (r : PrimeRows (table-of n rs) ns lens region) where
+  pub rows-within : Within n lens region
+  unfolding table-of
+  rows-within = r .within
+
+  pub rows-tell : (a : Bool) (p q : List ℕ) → all-below n p ≡ true → all-below n q ≡ true →
+      Tells a (expand (row lens region) p) (expand (row lens region) q) → a ≡ same (table-of n rs) p q
+  unfolding table-of over
+  rows-tell a p q o u s = r .told a p q o u s
+
+  module _ (p : List ℕ) (o : all-below n p ≡ true) where
+    pub readable : Readable lens region p
+    readable = within-readable n lens region p rows-within o
+
+    form : expand (row lens region) p ≡ prime-form (table-of n rs) p
+    unfolding table-of over
+    form = r .form p o
+
+    long : length (expand (row lens region) p) ≡ sum-of lens p
+    long = form-long lens region p readable
+
+    pub need-small : sum-of ns p ≤ 4096 → sum-of lens p ≤ 4096
+    unfolding table-of over
+    need-small h = omega (arith, r .short p o)
+
+    module _ (need : ℕ) (is : need ≡ sum-of lens p) (out : List ℕ) where
+      size : length (prime-form (table-of n rs) p) ≡ need
+      size = ap length (sym form) ∙ long ∙ sym is
+
+      pub form-refused : length out < need → Writes 0 (prime-form (table-of n rs) p) out (negsuc 9) out
+      form-refused h = writes-short 0 (prime-form (table-of n rs) p) out refl (omega (arith, size))
+
+      pub form-room : need ≤ length out → length (expand (row lens region) p) ≤ length out
+      form-room h = omega (arith, long)
+
+      pub form-written : (a : ℤ) (out′ : List ℕ) → need ≤ length out → a ≡ pos need →
+          out′ ≡ expand (row lens region) p ++ drop (length (expand (row lens region) p)) out →
+          Writes 0 (prime-form (table-of n rs) p) out a out′
+      form-written a out′ h e d =
+          writes-bytes 0 (prime-form (table-of n rs) p) out a out′ refl (omega (arith, size)) (e ∙ ap pos (sym size))
+          (d ∙ ap (λ (f : List ℕ). f ++ drop (length f) out) form)

@@ -1,0 +1,2 @@
+-- What the prime rows of a table give.
+pub mod Engine

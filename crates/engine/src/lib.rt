@@ -1,0 +1,85 @@
+// From a list of rules and the norms of its jobs to the prime rows, and the answers that they give about plans.
+use base::final_base;
+use form::form_length;
+use form::same_forms;
+use form::write_form;
+use order::order;
+use prepare::lowering_rules;
+use prepare::row_norms;
+use prime_table::prime_table;
+ghost use mathlib.Core.Path.{_≡_};
+ghost use mathlib.Core.Bool.{true};
+ghost use Prim.Native.Nat.{_≤_};
+ghost use lib.ListN.{length};
+ghost use Rattle.bpa.specs.Plans.{all-below};
+ghost use Rattle.bpa.specs.Norms.{sum-of};
+ghost use Rattle.bpa.specs.Method as method;
+ghost use Rattle.rules.specs.Places.{table-of};
+ghost use Rattle.norm.specs.NormArrays.{GoodNorms};
+ghost use Rattle.answer.specs.Answer.{Writes};
+ghost use Rattle.engine.specs.Engine.{PrimeRows};
+
+// The prime rows of all jobs, 512 bytes for each, and their lengths.
+pub fn prime_rows(
+    jobs: usize,
+    rules: &[u8],
+    norms: &[u16; 24],
+    lens: &mut [u16; 24],
+    rows: &mut [u8],
+)
+    requires { ⌜ GoodNorms jobs (now rules) (now norms) ⌝ }
+    requires { ⌜ length (now lens) ≡ 24 ⌝ }
+    requires { ⌜ length (now rows) ≡ 12288 ⌝ }
+    ensures { λ _. ⌜ PrimeRows (table-of jobs (now (rules .entry))) (now (norms .entry)) (now (lens .exit)) (now (rows .exit)) ⌝ }
+{
+    let sums = row_norms(rules, norms);
+    let low = lowering_rules(jobs, rules, norms, &sums);
+    let base = final_base(jobs, rules, norms, &low, &sums, rows);
+    let ord = order(jobs, norms);
+    prime_table(jobs, rules, norms, &low, &base, &ord, lens, rows);
+}
+
+// Whether two plans are the same. The prime rows are worked out in `rows`.
+pub fn same(
+    jobs: usize,
+    rules: &[u8],
+    norms: &[u16; 24],
+    left: &[u8],
+    right: &[u8],
+    rows: &mut [u8],
+) -> bool
+    requires { ⌜ GoodNorms jobs (now rules) (now norms) ⌝ }
+    requires { ⌜ all-below jobs (now left) ≡ true ⌝ }
+    requires { ⌜ all-below jobs (now right) ≡ true ⌝ }
+    requires { ⌜ length (now rows) ≡ 12288 ⌝ }
+    ensures { λ r. ⌜ r ≡ method.same (table-of jobs (now (rules .entry))) (now (left .entry)) (now (right .entry)) ⌝ }
+{
+    let mut lens = [0u16; 24];
+    prime_rows(jobs, rules, norms, &mut lens, rows);
+    same_forms(rows, &lens, jobs, left, right)
+}
+
+// The prime form of a plan, one byte a job, or refusal 10 with the output left as it was.
+pub fn form(
+    jobs: usize,
+    rules: &[u8],
+    norms: &[u16; 24],
+    plan: &[u8],
+    out: &mut [u8],
+    rows: &mut [u8],
+) -> i32
+    requires { ⌜ GoodNorms jobs (now rules) (now norms) ⌝ }
+    requires { ⌜ all-below jobs (now plan) ≡ true ⌝ }
+    requires { ⌜ sum-of (now norms) (now plan) ≤ 4096 ⌝ }
+    requires { ⌜ length (now rows) ≡ 12288 ⌝ }
+    ensures { λ r. ⌜ Writes 0 (method.prime-form (table-of jobs (now (rules .entry))) (now (plan .entry))) (now (out .entry)) r (now (out .exit)) ⌝ }
+{
+    let mut lens = [0u16; 24];
+    prime_rows(jobs, rules, norms, &mut lens, rows);
+    let need = form_length(&lens, plan);
+    if out.len() < need {
+        return -10;
+    }
+    write_form(rows, &lens, plan, out);
+    answer::result(need)
+}

@@ -1,0 +1,2 @@
+-- What the seven calls answer.
+pub mod Entries

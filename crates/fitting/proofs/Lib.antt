@@ -1,0 +1,3 @@
+-- Laws of matching the rules of the two sides of a pair.
+pub mod Walking
+pub mod Fitting

@@ -1,0 +1,3 @@
+-- Laws of writing forms.
+pub mod Expanding
+pub mod Telling

@@ -1,0 +1,2 @@
+-- Plans as their rows write them.
+pub mod Written

@@ -1,0 +1,70 @@
+// The seven calls of the service, for C: numbers pass as themselves, and an area as a pointer and then a length. A call gives
+// back a result, or a refusal's number made negative; no call keeps anything for the next.
+ghost use mathlib.Core.Path.{_≡_};
+ghost use Rattle.entries.specs.Entries.{Read, Written, norm-answer, Ran, Moved, Compared, Formed};
+
+// The table of an image: the job count in one byte, then the rules, 8 bytes each.
+#[no_mangle]
+pub extern "C" fn gindrazoma_read_image(image: &[u8], out: &mut [u8]) -> i32
+    ensures { λ r. ⌜ Read (now (image .entry)) (now (out .entry)) r (now (out .exit)) ⌝ }
+{
+    images::read_image(image, out)
+}
+
+// The image of a job count and a list of 8-byte rules.
+#[no_mangle]
+pub extern "C" fn gindrazoma_write_image(jobs: u32, rules: &[u8], out: &mut [u8]) -> i32
+    ensures { λ r. ⌜ Written jobs (now (rules .entry)) (now (out .entry)) r (now (out .exit)) ⌝ }
+{
+    images::write_image(jobs, rules, out)
+}
+
+// The norm of a plan.
+#[no_mangle]
+pub extern "C" fn gindrazoma_plan_norm(image: &[u8], plan: &[u8]) -> i32
+    ensures { λ r. ⌜ r ≡ norm-answer (now (image .entry)) (now (plan .entry)) ⌝ }
+{
+    plans::plan_norm(image, plan)
+}
+
+// A shortest run of a plan.
+#[no_mangle]
+pub extern "C" fn gindrazoma_shortest_run(image: &[u8], plan: &[u8], out: &mut [u8]) -> i32
+    ensures { λ r. ⌜ Ran (now (image .entry)) (now (plan .entry)) (now (out .entry)) r (now (out .exit)) ⌝ }
+{
+    plans::shortest_run(image, plan, out)
+}
+
+// The n-th move of a plan, n from 0; 0 is no such move.
+#[no_mangle]
+pub extern "C" fn gindrazoma_nth_move(image: &[u8], plan: &[u8], index: u32, out: &mut [u8]) -> i32
+    ensures { λ r. ⌜ Moved (now (image .entry)) (now (plan .entry)) index (now (out .entry)) r (now (out .exit)) ⌝ }
+{
+    plans::nth_move(image, plan, index, out)
+}
+
+// 1 for two plans that are the same, 0 for two that are apart.
+#[no_mangle]
+pub extern "C" fn gindrazoma_compare(
+    image: &[u8],
+    left: &[u8],
+    right: &[u8],
+    space: &mut [u8],
+) -> i32
+    ensures { λ r. ⌜ Compared (now (image .entry)) (now (left .entry)) (now (right .entry)) (now (space .entry)) r (now (space .exit)) ⌝ }
+{
+    sameness::compare(image, left, right, space)
+}
+
+// The prime form of a plan, one byte a job.
+#[no_mangle]
+pub extern "C" fn gindrazoma_prime_form(
+    image: &[u8],
+    plan: &[u8],
+    out: &mut [u8],
+    space: &mut [u8],
+) -> i32
+    ensures { λ r. ⌜ Formed (now (image .entry)) (now (plan .entry)) (now (out .entry)) (now (space .entry)) r (now (out .exit)) (now (space .exit)) ⌝ }
+{
+    sameness::prime_form(image, plan, out, space)
+}

@@ -1,0 +1,16 @@
+-- Laws of images: what each check gives, what an accepted image holds, and the round trips.
+pub mod Tests
+pub mod Blocks
+pub mod Accepted
+pub mod PlaceRows
+pub mod ListRefusal
+pub mod Held
+pub mod Written
+pub mod Numbers
+pub mod BlockParts
+pub mod ImageList
+pub mod ImageBack
+pub mod BlockChecks
+pub mod WrittenBlocks
+pub mod TableBack
+pub mod TableBytes

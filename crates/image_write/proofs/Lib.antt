@@ -1,0 +1,2 @@
+-- Laws of the writer.
+pub mod Filled

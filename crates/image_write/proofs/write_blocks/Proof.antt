@@ -1,0 +1,227 @@
+-- `image_write::write_blocks` meets its contract. The loop's invariant: the blocks written and those left are the image, and the output behind is as it was. Assumes nothing.
+use mathlib.Core.Path.{_≡_, refl, sym, ap, _∙_}
+use mathlib.Core.List.{List, [], _++_, append-nil, append-assoc}
+use Prim.Native.Nat.{ℕ, suc, _+_, _*_, _-_, _/_, _≤_, _<_, min}
+use native.Mathlib.Nat.{sub-zero}
+use native.Mathlib.Numerals.{add-one}
+use lib.ListN.{length, take, drop, length-append, length-take, length-drop, take-append-drop}
+use lib.Seq.{length-take-le, take-at, drop-drop}
+use borrow.Rule.Slice.PartMut.{putMid, postOf, same-len-mid, drop-put}
+use Rattle.rules.specs.Lists.{GoodList}
+use Rattle.rules.specs.Places.{rule-count}
+use Rattle.image.specs.Writing.{blocks-for, rules-for, written-block, written-from, written}
+use Rattle.image.specs.Filling.{Fills, filled}
+use Rattle.image.proofs.ListRefusal.{good-list}
+use Rattle.image.proofs.Written.{filled-is, block-size, written-size}
+use native.Mathlib.Omega.{arith}
+use Rattle.image_write.proofs.write_blocks.Statement.{statement}
+use Rattle.image_write.proofs.write_blocks.Tie as tie
+
+abbrev blocks : (rules : List ℕ) → ℕ
+blocks rs = (length rs / 8 + 62) / 63
+
+-- what the loop does not change
+record Fixed (n : ℕ) (rs out₀ : List ℕ) (count : ℕ) : Type 0 where
+  sized : length rs ≡ 8 * (length rs / 8)
+  few-rules : length rs ≤ 2016
+  few-jobs : n ≤ 24
+  few-blocks : count ≤ 4
+  all : length rs ≤ 504 * count
+  last : 504 * count < length rs + 504
+  room : 512 * count ≤ length out₀
+
+record State (n : ℕ) (rs out₀ : List ℕ) (count k : ℕ) (out : List ℕ) : Type 0 where
+  fixed : Fixed n rs out₀ count
+  within : k ≤ count
+  size : length out ≡ length out₀
+  done : take (512 * k) out ++ written-from (count - k) k n rs ≡ written n rs
+  kept : drop (512 * k) out ≡ drop (512 * k) out₀
+
+begin : (n : ℕ) (rs out : List ℕ) → GoodList n rs → length (written n rs) ≤ length out → State n rs out (blocks rs) 0 out
+unfolding rule-count blocks-for written
+begin n rs out g room =
+    let sized = g .whole in
+    let some = g .some in
+    let few = g .few in
+    let all = written-size rs sized n in record {
+      fixed = record {
+        sized = sized;
+        few-rules = omega arith;
+        few-jobs = g .jobs;
+        few-blocks = omega arith;
+        all = omega arith;
+        last = omega arith;
+        room = omega arith;
+      };
+      within = omega arith;
+      size = refl;
+      done = rw sub-zero;
+      kept = refl;
+    }
+
+-- block k and those behind it
+one-more : (n : ℕ) (rs : List ℕ) (count k : ℕ) → k < count → written-from (count - k) k n rs ≡ written-block n k rs ++ written-from (count - (k + 1)) (k + 1) n rs
+unfolding written-from
+one-more n rs count k h = let left : count - k ≡ suc (count - (k + 1)) = omega arith in rw (left, add-one)
+
+no-more : (n : ℕ) (rs : List ℕ) (count k : ℕ) → count ≤ k → written-from (count - k) k n rs ≡ []
+unfolding written-from
+no-more n rs count k h = let left : count - k ≡ 0 = omega arith in rw left
+
+module _ (n : ℕ) (rs out₀ : List ℕ) (k : ℕ) (out : List ℕ) (t : State n rs out₀ (blocks rs) k out) where
+  fills : k < blocks rs → (to : ℕ) → to ≡ min (504 * k + 504) (length rs)
+      → Fills n (take (to - 504 * k) (drop (504 * k) rs)) (take (512 * k + 512 - 512 * k) (drop (512 * k) out))
+  fills h to e = record {
+    whole = simp (length-take, length-drop) (omega arith);
+    few-rules = simp (length-take, length-drop) (omega arith);
+    few-jobs = omega arith;
+  }
+
+  -- the block that is filled is block k
+  filled-block : k < blocks rs → (to : ℕ) → to ≡ min (504 * k + 504) (length rs) → filled n k (blocks rs) (take (to - 504 * k) (drop (504 * k) rs)) ≡ written-block n k rs
+  unfolding rules-for rule-count blocks-for
+  filled-block h to e =
+      let size : to - 504 * k ≡ 8 * min 63 (length rs / 8 - 63 * k) = omega arith in
+      ap (λ m. filled n k (blocks rs) (take m (drop (504 * k) rs))) size ∙ filled-is rs (t .fixed .sized) n k
+
+  next : k < blocks rs → (to : ℕ) → to ≡ min (504 * k + 504) (length rs) → (block : List ℕ)
+      → block ≡ filled n k (blocks rs) (take (to - 504 * k) (drop (504 * k) rs))
+      → State n rs out₀ (blocks rs) (k + 1) (putMid (512 * k) (512 * k + 512 - 512 * k) out block)
+  unfolding rule-count
+  next h to e block w =
+      let a = 512 * k in
+      let block-is : block ≡ written-block n k rs = w ∙ filled-block h to e in
+      let many : length block ≡ 512 = ap length block-is ∙ block-size rs (t .fixed .sized) n k in
+      let middle : length (take (a + 512 - a) (drop a out)) ≡ 512 = simp (length-take, length-drop) (omega arith) in
+      let front : length (take a out ++ block) ≡ 512 * (k + 1) = let f = length-take-le a out (omega arith) in length-append (take a out) block ∙ omega arith in
+      let end : 512 * (k + 1) ≡ a + 512 = omega arith in
+      let later = written-from (blocks rs - (k + 1)) (k + 1) n rs in record {
+        fixed = t .fixed;
+        within = omega arith;
+        size = same-len-mid a (a + 512 - a) out block (many ∙ sym middle) ∙ t .size;
+        done = ap (λ l. take (512 * (k + 1)) l ++ later) (sym (append-assoc (take a out) block (postOf a (a + 512 - a) out)))
+            ∙ ap (λ l. l ++ later) (take-at (take a out ++ block) (postOf a (a + 512 - a) out) (512 * (k + 1)) front)
+            ∙ append-assoc (take a out) block later ∙ ap (λ l. take a out ++ (l ++ later)) block-is ∙ ap (λ l. take a out ++ l) (sym (one-more n rs (blocks rs) k h)) ∙ t .done;
+        kept = ap (λ m. drop m (putMid a (a + 512 - a) out block)) end
+            ∙ drop-put a (a + 512) out block (omega arith) (omega arith) (omega arith)
+            ∙ sym (drop-drop 512 a out) ∙ ap (drop 512) (t .kept) ∙ drop-drop 512 a out₀ ∙ ap (λ m. drop m out₀) (sym end);
+      }
+
+  done : blocks rs ≤ k → (512 * blocks rs ≡ length (written n rs)) × (out ≡ written n rs ++ drop (length (written n rs)) out₀)
+  unfolding rule-count blocks-for
+  done h =
+      let all = written-size rs (t .fixed .sized) n in
+      let end : length (written n rs) ≡ 512 * k = omega arith in
+      let whole : take (512 * k) out ≡ written n rs =
+      sym (append-nil (take (512 * k) out)) ∙ ap (λ l. take (512 * k) out ++ l) (sym (no-more n rs (blocks rs) k h)) ∙ t .done in (
+        omega arith,
+        sym (take-append-drop (512 * k) out) ∙ (λ i. whole i ++ t .kept i) ∙ ap (λ m. written n rs ++ drop m out₀) (sym end),
+      )
+
+abbrev Inv-loop : tie.InvT-loop
+Inv-loop jobs rules out₀ blocks k₀ out k = State jobs rules out₀ blocks k out
+
+abbrev μ-loop : tie.MeasureT-loop
+μ-loop jobs rules out₀ blocks k₀ out k = blocks - k
+
+add-blocks : tie.Need-add-blocks Inv-loop μ-loop
+add-blocks c = omega arith
+
+loop-holds : tie.Need-loop-holds Inv-loop μ-loop
+loop-holds c =
+    let start = c .before .before in
+    begin (start .args .jobs) (start .args .rules .now) (start .args .out .now) (good-list _ _ (start .pre .0)) (start .pre .1)
+
+mul-a : tie.Need-mul-a Inv-loop μ-loop
+mul-a c = omega arith
+
+add-e : tie.Need-add-e Inv-loop μ-loop
+add-e c = omega arith
+
+mul-from : tie.Need-mul-from Inv-loop μ-loop
+mul-from c = omega arith
+
+add-least : tie.Need-add-least Inv-loop μ-loop
+add-least c = omega arith
+
+least-requires : tie.Need-least-requires Inv-loop μ-loop
+least-requires c κs = tt
+
+sub-fill-block : tie.Need-sub-fill-block Inv-loop μ-loop
+sub-fill-block c = omega arith
+
+part-fill-block-start : tie.Need-part-fill-block-start Inv-loop μ-loop
+part-fill-block-start c = omega arith
+
+part-fill-block-end : tie.Need-part-fill-block-end Inv-loop μ-loop
+part-fill-block-end c = omega arith
+
+sub-fill-block-2 : tie.Need-sub-fill-block-2 Inv-loop μ-loop
+sub-fill-block-2 c = omega arith
+
+part-fill-block-start-2 : tie.Need-part-fill-block-start-2 Inv-loop μ-loop
+part-fill-block-start-2 c = omega arith
+
+part-fill-block-end-2 : tie.Need-part-fill-block-end-2 Inv-loop μ-loop
+part-fill-block-end-2 c = omega arith
+
+fill-block-requires : tie.Need-fill-block-requires Inv-loop μ-loop
+fill-block-requires c κs =
+    let at-loop = c .before .before .before .before in
+    let args = at-loop .before .before .before .args in
+    fills (args .jobs) (args .rules .now) (args .out .now) (at-loop .loop .k) (at-loop .loop .out) (at-loop .loop .inv)
+    (c .before .before .before .loop-test .taken) (c .before .before .least .result) (c .before .before .least .ensures)
+
+add-k : tie.Need-add-k Inv-loop μ-loop
+add-k c = omega arith
+
+loop-less : tie.Need-loop-less Inv-loop μ-loop
+loop-less c = omega arith
+
+loop-again : tie.Need-loop-again Inv-loop μ-loop
+loop-again c =
+    let turned = c .before .before .before .before .before in
+    let at-loop = turned .before .before in
+    let args = at-loop .before .before .before .args in
+    next (args .jobs) (args .rules .now) (args .out .now) (at-loop .loop .k) (at-loop .loop .out) (at-loop .loop .inv)
+    (turned .before .loop-test .taken) (turned .least .result) (turned .least .ensures)
+    (c .before .before .fill-block .last .1 .1 .1 .1 .0) (c .before .before .fill-block .ensures)
+
+mul-result : tie.Need-mul-result Inv-loop μ-loop
+mul-result c = omega arith
+
+same-length : tie.Need-same-length Inv-loop μ-loop
+same-length c = c .before .loop .inv .size
+
+returns : tie.Need-returns Inv-loop μ-loop
+returns c =
+    let at-loop = c .before in
+    let args = at-loop .before .before .before .args in
+    done (args .jobs) (args .rules .now) (args .out .now) (at-loop .loop .k) (at-loop .loop .out) (at-loop .loop .inv) (c .loop-test .left)
+
+pub write-blocks-spec : {M : Type 1} → statement M
+write-blocks-spec =
+    tie.close
+    (tie.spec
+    Inv-loop
+    μ-loop
+    add-blocks
+    loop-holds
+    mul-a
+    add-e
+    mul-from
+    add-least
+    least-requires
+    sub-fill-block
+    part-fill-block-start
+    part-fill-block-end
+    sub-fill-block-2
+    part-fill-block-start-2
+    part-fill-block-end-2
+    fill-block-requires
+    add-k
+    loop-less
+    loop-again
+    mul-result
+    same-length
+    returns)

@@ -1,0 +1,3 @@
+-- Laws of the calls that read and write images.
+pub mod Reading
+pub mod Writing

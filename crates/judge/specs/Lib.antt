@@ -1,0 +1,3 @@
+-- The base as bytes, and the verdict on a pair of jobs.
+pub mod Judging
+pub mod Verdicts

@@ -1,0 +1,35 @@
+-- `look::reports::pair_report` meets its contract. Assumes nothing.
+use mathlib.Core.Path.{subst, _∙_}
+use lib.IntN.{ℤ}
+use mir.Syntax.{w32}
+use mir.ValLaws.{toZ-ofZ}
+use Rattle.look.specs.Lines.{IsLine, pair-line}
+use Rattle.look.proofs.JobAnswers.{compared}
+use borrow.Author.Needs.{needs}
+use Rattle.look.proofs.reports.pair_report.Statement.{statement}
+use Rattle.look.proofs.reports.pair_report.Tie as tie
+
+slice-aggregate-compare : tie.Need-slice-aggregate-compare
+slice-aggregate-compare c = search needs
+
+compare-requires : tie.Need-compare-requires
+compare-requires c κs = search needs
+
+pair-line-requires : tie.Need-pair-line-requires
+pair-line-requires c κs = search needs
+
+same-length : tie.Need-same-length
+same-length c = search needs
+
+returns : tie.Need-returns
+returns c =
+    let m = c .before .before .before .before .before in
+    let s = c .before .before .before .before .before .before .before .before .before .before .before in
+    subst (λ (z : ℤ). IsLine (pair-line (s .args .pair) z) (s .args .line .now) (c .before .before .pair-line .result) (c .before .before .pair-line .last .1 .1 .0))
+    (toZ-ofZ w32 (m .compare .result) (record { sfits = m .compare .ok }) ∙ compared _ _ _ _ _ _ (m .compare .ensures) (search needs))
+    (c .before .before .pair-line .ensures)
+
+pub pair-report-spec : {M : Type 1} → statement M
+pair-report-spec =
+    tie.close
+    (tie.spec slice-aggregate-compare compare-requires pair-line-requires same-length returns)

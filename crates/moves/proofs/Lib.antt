@@ -1,0 +1,4 @@
+-- Laws of the n-th move.
+pub mod NthRule
+pub mod NoSuchMove
+pub mod Answers

@@ -1,0 +1,2 @@
+-- The n-th move of a plan.
+pub mod Moves

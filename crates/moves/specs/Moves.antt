@@ -1,0 +1,44 @@
+-- The n-th move of a plan as bytes, and the rule that it comes from. Assumes nothing: these are definitions.
+use mathlib.Core.Path.{_≡_}
+use mathlib.Core.Bool.{cond}
+use mathlib.Core.List.{List, [], _∷_, _++_}
+use Prim.Native.Nat.{ℕ, zero, suc, _≤_}
+use lib.Dec.{ltb, eqb}
+use lib.ListN.{length, drop}
+use Rattle.bpa.specs.Plans.{Rule, Table, Move, job-moves}
+use Rattle.rules.specs.Places.{rules-in, rule-count, rule-at}
+use Rattle.rules.specs.Lists.{HasPlace}
+
+-- THE n-TH MOVE of a list: its number, then the remaining plan; nothing if there is no such move
+unfoldable pub move-bytes : List Move → (n : ℕ) → List ℕ
+move-bytes [] n = []
+move-bytes (m ∷ ms) zero = m .move ∷ m .rest
+move-bytes (m ∷ ms) (suc n) = move-bytes ms n
+
+-- how many rules the first job of a plan has
+unfoldable pub rules-of : (job : ℕ) → List Rule → ℕ
+rules-of j [] = 0
+rules-of j (r ∷ rs) = cond (eqb (r .job) j) (suc (rules-of j rs)) (rules-of j rs)
+
+unfoldable pub first-rules : Table → (plan : List ℕ) → ℕ
+first-rules t [] = 0
+first-rules t (j ∷ js) = rules-of j (t .rules)
+
+-- the bytes of a move by the rule at a place, with jobs that wait
+unfoldable pub bytes-by : (rules : List ℕ) → (i : ℕ) → (waiting : List ℕ) → List ℕ
+bytes-by rs i w = rule-at rs i .move ∷ (rule-at rs i .after ++ w)
+
+-- the place of the n-th rule of a job, or the end of the list
+pub record IsNth (rs : List ℕ) (j n i : ℕ) : Type 0 where
+  pub place : i ≤ rule-count rs
+  pub move : (w : List ℕ) → move-bytes (job-moves j w (rules-in (rule-count rs) rs)) n ≡ cond (ltb i (rule-count rs)) (bytes-by rs i w) []
+
+-- room for the bytes of a move
+pub record RoomFor (rs : List ℕ) (i : ℕ) (w out : List ℕ) : Type 0 where
+  pub rule : HasPlace rs i
+  pub room : length (bytes-by rs i w) ≤ length out
+
+-- bytes in front of what an area held behind them
+pub record InFront (bytes out : List ℕ) (r : ℕ) (out′ : List ℕ) : Type 0 where
+  pub count : r ≡ length bytes
+  pub output : out′ ≡ bytes ++ drop (length bytes) out

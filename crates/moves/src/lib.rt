@@ -1,0 +1,61 @@
+// The n-th move of a plan.
+ghost use Prim.Native.Nat.{_≤_};
+ghost use lib.ListN.{length};
+ghost use Rattle.bpa.specs.Plans.{moves};
+ghost use Rattle.rules.specs.Places.{table-of};
+ghost use Rattle.rules.specs.Lists.{GoodList};
+ghost use Rattle.answer.specs.Answer.{Writes};
+ghost use Rattle.moves.specs.Moves.{move-bytes, bytes-by, IsNth, RoomFor, InFront};
+
+// The place of a job's rule by its index among the job's rules; the number of all rules if there is none.
+fn find_rule(rules: &[u8], job: usize, index: u32) -> usize
+    ensures { λ r. ⌜ IsNth (now (rules .entry)) job index r ⌝ }
+{
+    let total = rules::rule_total(rules);
+    let mut left = index;
+    let mut rest = total;
+    while 0 < rest {
+        let at = total - rest;
+        rest -= 1;
+        if rules::rule_job(rules, at) != job {
+            continue;
+        }
+        if left == 0 {
+            return at;
+        }
+        left -= 1;
+    }
+    total
+}
+
+// Writes a move: its number, the jobs after it, the jobs that wait.
+fn write_move(rules: &[u8], i: usize, waiting: &[u8], out: &mut [u8]) -> usize
+    requires { ⌜ RoomFor (now rules) i (now waiting) (now out) ⌝ }
+    ensures { λ r. ⌜ InFront (bytes-by (now (rules .entry)) i (now (waiting .entry))) (now (out .entry)) r (now (out .exit)) ⌝ }
+{
+    out[0] = rules::rule_move(rules, i) as u8;
+    let behind = output::put(out, 1, rules::rule_after(rules, i));
+    output::put(out, behind, waiting)
+}
+
+// The n-th move of a plan, one for each rule of its first job in image order. It gives the number of bytes written, 0 for no
+// such move, or refusal 10.
+pub fn nth_move(jobs: usize, rules: &[u8], plan: &[u8], index: u32, out: &mut [u8]) -> i32
+    requires { ⌜ GoodList jobs (now rules) ⌝ }
+    requires { ⌜ length (now plan) ≤ 4096 ⌝ }
+    ensures { λ r. ⌜ Writes 0 (move-bytes (moves (table-of jobs (now (rules .entry))) (now (plan .entry))) index) (now (out .entry)) r (now (out .exit)) ⌝ }
+{
+    if plan.len() == 0 {
+        return 0;
+    }
+    let job = plan[0] as usize;
+    let i = find_rule(rules, job, index);
+    if i >= rules::rule_total(rules) {
+        return 0;
+    }
+    let need = plan.len() + rules::rule_len(rules, i);
+    if out.len() < need {
+        return -10;
+    }
+    answer::result(write_move(rules, i, &plan[1..], out))
+}

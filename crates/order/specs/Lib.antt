@@ -1,0 +1,2 @@
+-- The jobs of a table in order.
+pub mod Order

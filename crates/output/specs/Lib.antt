@@ -1,0 +1,2 @@
+-- Bytes put into an area.
+pub mod Output

@@ -1,0 +1,2 @@
+-- Laws of the calls about one plan.
+pub mod Loaded

@@ -1,0 +1,133 @@
+-- Searches among the rules of a list: the first rule that passes a test, found from the last rule to the first. Assumes nothing.
+use mathlib.Core.Path.{_≡_, sym, ap, _∙_, subst}
+use mathlib.Core.Bool.{Bool, true, false, true≢false}
+use mathlib.Core.List.{List, [], _∷_, _++_, List·Memᴰ, List·Memᴰ·not-nil, List·Memᴰ·cases-cons}
+use mathlib.Core.Logic.{⊎-elim}
+use Prim.Native.Nat.{ℕ, zero, suc, _+_, _≤_, _<_}
+use native.Mathlib.Omega.{arith}
+use lib.ListN.{length, getD, drop, length-drop}
+use lib.Seq.{drop-cons, getD-drop, drop-length, drop-nil}
+use Rattle.bpa.specs.Plans.{Rule, job-moves}
+use Rattle.bpa.specs.Method.{lowering}
+use Rattle.bpa.proofs.Basics.Cases.{by-test}
+use Rattle.rules.specs.Places.{rule-at, rule-count}
+use Rattle.rules.proofs.ListLaws.{length-rules-in, rules-in-at}
+use Rattle.prepare.specs.Prepared.{all-rules, seek, of-job, lowers}
+
+-- THE RULES FROM A POSITION ON
+pub all-length : (rs : List ℕ) → length (all-rules rs) ≡ rule-count rs
+unfolding all-rules
+all-length rs = length-rules-in (rule-count rs) rs
+
+pub all-at : (rs : List ℕ) (i : ℕ) (d : Rule) → i < rule-count rs → getD (all-rules rs) i d ≡ rule-at rs i
+unfolding all-rules
+all-at rs i d h = rules-in-at (rule-count rs) rs i d h
+
+pub all-cons : (rs : List ℕ) (i : ℕ) → i < rule-count rs → drop i (all-rules rs) ≡ rule-at rs i ∷ drop (suc i) (all-rules rs)
+all-cons rs i h =
+    drop-cons (all-rules rs) i (rule-at rs i) (omega (arith, all-length rs))
+    ∙ ap (λ (r : Rule). r ∷ drop (suc i) (all-rules rs)) (all-at rs i (rule-at rs i) h)
+
+pub all-end : (rs : List ℕ) → drop (rule-count rs) (all-rules rs) ≡ []
+all-end rs = ap (λ (n : ℕ). drop n (all-rules rs)) (sym (all-length rs)) ∙ drop-length (all-rules rs)
+
+-- A SEARCH
+module _ (f : Rule → Bool) where
+  seek-here : (r : Rule) (l : List Rule) → f r ≡ true → seek f (r ∷ l) ≡ 0
+  unfolding seek
+  seek-here r l e = rw e
+
+  seek-past : (r : Rule) (l : List Rule) → f r ≡ false → seek f (r ∷ l) ≡ suc (seek f l)
+  unfolding seek
+  seek-past r l e = rw e
+
+  pub seek-le : (l : List Rule) → seek f l ≤ length l
+  unfolding seek
+  seek-le [] = omega arith
+  seek-le (r ∷ l) = by-test (f r) (λ e. omega (arith, seek-here r l e)) (λ e. omega (arith, seek-past r l e, seek-le l))
+
+  pub seek-hit : (l : List Rule) (d : Rule) → seek f l < length l → f (getD l (seek f l) d) ≡ true
+  unfolding seek
+  seek-hit [] d h = absurd (omega arith)
+  seek-hit (r ∷ l) d h =
+      by-test (f r)
+      (λ e. ap (λ (k : ℕ). f (getD (r ∷ l) k d)) (seek-here r l e) ∙ e)
+      (λ e. ap (λ (k : ℕ). f (getD (r ∷ l) k d)) (seek-past r l e) ∙ seek-hit l d (omega (arith, seek-past r l e)))
+
+  pub seek-before : (l : List Rule) (k : ℕ) (d : Rule) → k < seek f l → f (getD l k d) ≡ false
+  unfolding seek
+  seek-before [] k d h = absurd (omega arith)
+  seek-before (r ∷ l) zero d h = by-test (f r) (λ e. absurd (omega (arith, seek-here r l e))) (λ e. e)
+  seek-before (r ∷ l) (suc k) d h =
+      by-test (f r) (λ e. absurd (omega (arith, seek-here r l e))) (λ e. seek-before l k d (omega (arith, seek-past r l e)))
+
+  pub seek-found : (l : List Rule) (r : Rule) → List·Memᴰ r l → f r ≡ true → seek f l < length l
+  seek-found [] r m e = absurd (List·Memᴰ·not-nil m)
+  seek-found (s ∷ l) r m e =
+      by-test (f s)
+      (λ q. omega (arith, seek-here s l q))
+      (λ q.
+      ⊎-elim
+      (λ (k : r ≡ s). absurd (true≢false (sym e ∙ ap f k ∙ q)))
+      (λ (k : List·Memᴰ r l). omega (arith, seek-past s l q, seek-found l r k e))
+      (List·Memᴰ·cases-cons m))
+
+  -- a value kept from the last rule to the first: what it becomes at a rule that passes and at one that does not
+  pub seek-step : (rs : List ℕ) (i v : ℕ) → i < rule-count rs →
+      (f (rule-at rs i) ≡ true → v ≡ i) →
+      (f (rule-at rs i) ≡ false → v ≡ suc i + seek f (drop (suc i) (all-rules rs))) →
+      v ≡ i + seek f (drop i (all-rules rs))
+  seek-step rs i v h hit miss =
+      let l = drop (suc i) (all-rules rs) in
+      subst (λ (k : List Rule). v ≡ i + seek f k) (sym (all-cons rs i h))
+      (by-test (f (rule-at rs i))
+      (λ e. omega (arith, hit e, seek-here (rule-at rs i) l e))
+      (λ e. omega (arith, miss e, seek-past (rule-at rs i) l e)))
+
+  pub seek-end : (rs : List ℕ) → rule-count rs ≡ rule-count rs + seek f (drop (rule-count rs) (all-rules rs))
+  unfolding seek
+  seek-end rs = rw (all-end rs) (omega arith)
+
+  -- a search that starts at a position ends within the list, at a rule that passes
+  pub seek-within : (rs : List ℕ) (i : ℕ) → i ≤ rule-count rs → i + seek f (drop i (all-rules rs)) ≤ rule-count rs
+  seek-within rs i h =
+      omega (arith, seek-le (drop i (all-rules rs)), length-drop i (all-rules rs), all-length rs)
+
+  pub seek-passes : (rs : List ℕ) (i k : ℕ) → k ≡ i + seek f (drop i (all-rules rs)) → k < rule-count rs → f (rule-at rs k) ≡ true
+  seek-passes rs i k e h =
+      let l = drop i (all-rules rs) in
+      let d = rule-at rs k in
+      ap f (sym (all-at rs k d h) ∙ ap (λ (m : ℕ). getD (all-rules rs) m d) e ∙ sym (getD-drop i (all-rules rs) (seek f l) d))
+      ∙ seek-hit l d (omega (arith, length-drop i (all-rules rs), all-length rs))
+
+-- the moves of a job: a rule of another job makes none of them, so they are those of the rules from its first on
+pub moves-past : (j : ℕ) (xs : List ℕ) (r : Rule) (l : List Rule) → of-job j r ≡ false → job-moves j xs (r ∷ l) ≡ job-moves j xs l
+unfolding job-moves of-job
+moves-past j xs r l e = rw e
+
+pub moves-here : (j : ℕ) (xs : List ℕ) (r : Rule) (l : List Rule) → of-job j r ≡ true →
+    job-moves j xs (r ∷ l) ≡ record { move = r .move; rest = r .after ++ xs } ∷ job-moves j xs l
+unfolding job-moves of-job
+moves-here j xs r l e = rw e
+
+pub moves-from : (j : ℕ) (xs : List ℕ) (l : List Rule) → job-moves j xs l ≡ job-moves j xs (drop (seek (of-job j) l) l)
+moves-from j xs [] = ap (job-moves j xs) (sym (drop-nil (seek (of-job j) [])))
+moves-from j xs (r ∷ l) =
+    by-test (of-job j r)
+    (λ e. sym (ap (λ (k : ℕ). job-moves j xs (drop k (r ∷ l))) (seek-here (of-job j) r l e)))
+    (λ e.
+    moves-past j xs r l e ∙ moves-from j xs l
+    ∙ sym (ap (λ (k : ℕ). job-moves j xs (drop k (r ∷ l))) (seek-past (of-job j) r l e)))
+
+-- the jobs after the first norm-lowering rule
+pub lowering-at : (ns : List ℕ) (j : ℕ) (l : List Rule) (d : Rule) → seek (lowers ns j) l < length l →
+    getD l (seek (lowers ns j) l) d .after ≡ lowering ns l j
+unfolding lowering lowers
+lowering-at ns j [] d h = absurd (omega arith)
+lowering-at ns j (r ∷ l) d h =
+    by-test (lowers ns j r)
+    (λ e. ap (λ (k : ℕ). getD (r ∷ l) k d .after) (seek-here (lowers ns j) r l e) ∙ sym (rw e))
+    (λ e.
+    ap (λ (k : ℕ). getD (r ∷ l) k d .after) (seek-past (lowers ns j) r l e)
+    ∙ lowering-at ns j l d (omega (arith, seek-past (lowers ns j) r l e))
+    ∙ sym (rw e))

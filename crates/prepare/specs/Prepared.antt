@@ -1,0 +1,82 @@
+-- What is worked out once from a list of rules and the norms of its jobs. Assumes nothing: these are definitions.
+use mathlib.Core.Path.{_≡_}
+use mathlib.Core.Bool.{Bool, _&&_, cond}
+use mathlib.Core.List.{List, [], _∷_, _++_}
+use Prim.Native.Nat.{ℕ, suc, _+_, _%_, _^_, _≤_, _<_}
+use lib.Bits.{bitOr}
+use lib.Dec.{eqb}
+use lib.ListN.{length, getD, drop}
+use Rattle.bpa.specs.Plans.{Rule, Move}
+use Rattle.bpa.specs.Norms.{sum-of, Good}
+use Rattle.bpa.specs.Method.{lowering}
+use Rattle.bpa.proofs.Base.SameBase.{Same-moves}
+use Rattle.rules.specs.Places.{rule-at, rule-count, rules-in, table-of}
+use Rattle.rules.specs.Lists.{GoodList}
+
+-- a list of rules with the norms of its jobs, none above 512
+pub record Normed (n : ℕ) (rs ns : List ℕ) : Type 0 where
+  pub list : GoodList n rs
+  pub good : Good (table-of n rs) ns
+  pub small : (j : ℕ) → j < n → getD ns j 0 ≤ 512
+
+-- the rules of a list, in its order
+unfoldable pub all-rules : (rules : List ℕ) → List Rule
+all-rules rs = rules-in (rule-count rs) rs
+
+-- the move of the rule at a position, with a plan behind
+abbrev pub move-of : (rules : List ℕ) → (position : ℕ) → (behind : List ℕ) → Move
+move-of rs i xs = record { move = rule-at rs i .move; rest = rule-at rs i .after ++ xs }
+
+-- how many rules stand before the first that passes a test; all of them, if none does
+unfoldable pub seek : (test : Rule → Bool) → List Rule → ℕ
+seek f [] = 0
+seek f (r ∷ rs) = cond (f r) 0 (suc (seek f rs))
+
+unfoldable pub of-job : (job : ℕ) → Rule → Bool
+of-job j r = eqb (r .job) j
+
+-- a rule of the job that lowers its norm by one
+unfoldable pub lowers : (norms : List ℕ) → (job : ℕ) → Rule → Bool
+lowers ns j r = eqb (r .job) j && eqb (getD ns j 0) (suc (sum-of ns (r .after)))
+
+-- what the norm of a row asks, and gives
+pub record ShortRow (ns row : List ℕ) : Type 0 where
+  pub few : length row ≤ 4
+  pub below : (i : ℕ) → i < length row → getD row i 0 < 24
+  pub most : (i : ℕ) → i < length row → getD ns (getD row i 0) 0 ≤ 512
+
+pub record RowNorm (ns row : List ℕ) (r : ℕ) : Type 0 where
+  pub is : r ≡ sum-of ns row
+  pub small : r ≤ 2048
+
+-- THE NORMS of the jobs after each rule
+pub record RowNorms (rs ns out : List ℕ) : Type 0 where
+  pub at : (i : ℕ) → i < rule-count rs → RowNorm ns (rule-at rs i .after) (getD out i 0)
+
+-- THE NORM-LOWERING RULES: for each job the position of its first
+pub record Lowered (n : ℕ) (rs ns low : List ℕ) : Type 0 where
+  pub inside : (j : ℕ) → j < n → getD low j 0 < rule-count rs
+  pub after : (j : ℕ) → j < n → rule-at rs (getD low j 0) .after ≡ lowering ns (table-of n rs .rules) j
+
+-- CHAINS: the rules of a job from its first to each next; the number of rules ends a chain
+pub record Chained (rs first next : List ℕ) : Type 0 where
+  pub starts : (j : ℕ) → j < 24 → getD first j 0 ≡ seek (of-job j) (all-rules rs)
+  pub goes-on : (i : ℕ) → i < rule-count rs →
+      getD next i 0 ≡ suc i + seek (of-job (rule-at rs i .job)) (drop (suc i) (all-rules rs))
+
+-- a position on the chain of a job: a rule of the job, or the end
+pub record OnChain (rs : List ℕ) (j i : ℕ) : Type 0 where
+  pub within : i ≤ rule-count rs
+  pub own : i < rule-count rs → rule-at rs i .job ≡ j
+
+-- bits joined, one for each move of a job's rules
+unfoldable pub move-bit : Rule → ℕ
+move-bit r = 2 ^ (r .move % 64)
+
+unfoldable pub mark : (job : ℕ) → List Rule → ℕ
+mark j [] = 0
+mark j (r ∷ rs) = cond (of-job j r) (bitOr (mark j rs) (move-bit r)) (mark j rs)
+
+-- MARKS of the jobs: jobs with the same moves have the same mark
+pub record Marked (n : ℕ) (rs marks : List ℕ) : Type 0 where
+  pub same : (y x : ℕ) → Same-moves (table-of n rs) y x → y < n → x < n → getD marks y 0 ≡ getD marks x 0

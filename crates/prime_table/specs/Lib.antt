@@ -1,0 +1,2 @@
+-- The table of prime rows.
+pub mod Primes

@@ -1,0 +1,3 @@
+-- What is promised of tables, plans and images.
+pub mod Promises
+pub mod Calls

@@ -1,0 +1,116 @@
+-- A table that neither refusal 6 nor refusal 7 meets: its array of norms is exact, and it is a good table. Assumes nothing.
+use mathlib.Core.Path.{_≡_, refl, sym, ap, ap₂, _∙_}
+use mathlib.Core.Bool.{Bool, true, false, _||_, cond, true≢false}
+use mathlib.Core.List.{List, [], _∷_, map}
+use Prim.Native.Nat.{ℕ, zero, suc, _≤_, _<_, min}
+use native.Mathlib.Decide.{decLt}
+use native.Mathlib.Omega.{arith}
+use lib.Dec.{ltb, eqb}
+use lib.ListN.{length, getD, take, length-take, length-map, List·getD-map}
+use lib.Seq.{ext-getD, getD-take}
+use borrow.Author.Tests.{eqb-false, ltb-false, lt-ltb, le-ltb, ne-eqb}
+use Rattle.bpa.specs.Plans.{Table}
+use Rattle.bpa.specs.Norms.{norms, Good}
+use Rattle.bpa.proofs.Norm.NormStable.{norms-length}
+use Rattle.bpa.proofs.Norm.GoodTable.{finite-good}
+use Rattle.rules.specs.Places.{any-zero, any-above, table-refusal, table-of}
+use Rattle.rules.specs.Lists.{GoodList}
+use Rattle.rules.proofs.ListLaws.{table-closed}
+use Rattle.norm.specs.NormArrays.{NormArray, ExactNorms}
+use Rattle.norm.proofs.Agreement.{sum-agree}
+use Rattle.refusal.specs.Refusals.{norms-refusal}
+
+-- capping at 513 keeps both tests
+zero-cap : (v : ℕ) → eqb (min 513 v) 0 ≡ eqb v 0
+zero-cap zero = refl
+zero-cap (suc v) = ne-eqb (min 513 (suc v)) 0 (λ e. omega arith) ∙ sym (ne-eqb (suc v) 0 (λ e. omega arith))
+
+above-cap : (v : ℕ) → Dec (512 < v) → ltb 512 (min 513 v) ≡ ltb 512 v
+above-cap v (yes h) = lt-ltb 512 (min 513 v) (omega arith) ∙ sym (lt-ltb 512 v h)
+above-cap v (no d) = le-ltb 512 (min 513 v) (omega arith) ∙ sym (le-ltb 512 v (omega arith))
+
+any-zero-cap : (ns : List ℕ) → any-zero (map (min 513) ns) ≡ any-zero ns
+unfolding any-zero
+any-zero-cap [] = refl
+any-zero-cap (v ∷ vs) = ap₂ _||_ (zero-cap v) (any-zero-cap vs)
+
+any-above-cap : (ns : List ℕ) → any-above 512 (map (min 513) ns) ≡ any-above 512 ns
+unfolding any-above
+any-above-cap [] = refl
+any-above-cap (v ∷ vs) = ap₂ _||_ (above-cap v (decLt 512 v)) (any-above-cap vs)
+
+-- what the tests say of each norm
+or-none : (a b : Bool) → (a || b) ≡ false → (a ≡ false) × (b ≡ false)
+or-none true b h = absurd (true≢false h)
+or-none false b h = (refl, h)
+
+none-zero : (ns : List ℕ) → any-zero ns ≡ false → (j : ℕ) → j < length ns → 0 < getD ns j 0
+unfolding any-zero
+none-zero [] h j l = absurd (omega arith)
+none-zero (v ∷ vs) h zero l = let d = eqb-false v 0 (or-none (eqb v 0) (any-zero vs) h .0) in omega arith
+none-zero (v ∷ vs) h (suc j) l = none-zero vs (or-none (eqb v 0) (any-zero vs) h .1) j (omega arith)
+
+none-above : (m : ℕ) (ns : List ℕ) → any-above m ns ≡ false → (j : ℕ) → getD ns j 0 ≤ m
+unfolding any-above
+none-above m [] h j = omega arith
+none-above m (v ∷ vs) h zero = ltb-false m v (or-none (ltb m v) (any-above m vs) h .0)
+none-above m (v ∷ vs) h (suc j) = none-above m vs (or-none (ltb m v) (any-above m vs) h .1) j
+
+no-refusal : (a b : Bool) (r : ℕ) → r ≡ cond a 6 (cond b 7 0) → r ≡ 0 → (a ≡ false) × (b ≡ false)
+no-refusal true b r e h = absurd (omega arith)
+no-refusal false true r e h = absurd (omega arith)
+no-refusal false false r e h = (refl, refl)
+
+module _ (n : ℕ) (rs : List ℕ) (good : GoodList n rs) (a : List ℕ) (is : NormArray (table-of n rs) a) where
+  length-norms : length (norms (table-of n rs)) ≡ n
+  unfolding table-of
+  length-norms = norms-length (table-of n rs)
+
+  length-first : length (take n a) ≡ n
+  length-first = length-take n a ∙ omega (arith, is .size, good .jobs)
+
+  first-norms : take n a ≡ map (min 513) (norms (table-of n rs))
+  first-norms =
+      ext-getD 0 (take n a) (map (min 513) (norms (table-of n rs)))
+      (length-first ∙ sym (length-map (norms (table-of n rs)) (min 513) ∙ length-norms))
+      (λ j h. getD-take n a j 0 (omega (arith, length-first)) ∙ is .at j ∙ sym (List·getD-map (min 513) (norms (table-of n rs)) j 0))
+
+  -- REFUSALS 6 AND 7 by the array are those of the table
+  pub array-refusal : norms-refusal n a ≡ table-refusal (table-of n rs)
+  unfolding norms-refusal table-refusal
+  array-refusal =
+      ap (λ (l : List ℕ). cond (any-zero l) 6 (cond (any-above 512 l) 7 0)) first-norms
+      ∙ ap₂ (λ (x y : Bool). cond x 6 (cond y 7 0)) (any-zero-cap (norms (table-of n rs))) (any-above-cap (norms (table-of n rs)))
+
+  module _ (passed : table-refusal (table-of n rs) ≡ 0) where
+    neither : (any-zero (norms (table-of n rs)) ≡ false) × (any-above 512 (norms (table-of n rs)) ≡ false)
+    unfolding table-refusal
+    neither = no-refusal (any-zero (norms (table-of n rs))) (any-above 512 (norms (table-of n rs))) 0 (sym passed) refl
+
+    small : (j : ℕ) → getD (norms (table-of n rs)) j 0 ≤ 512
+    small = none-above 512 (norms (table-of n rs)) (neither .1)
+
+    -- the array holds the norms
+    pub exact-norms : ExactNorms (table-of n rs) a
+    exact-norms = record {
+      size = is .size;
+      at = λ j. is .at j ∙ omega (arith, small j);
+      few = λ j. omega (arith, is .at j, small j);
+    }
+
+    -- AN ACCEPTED TABLE IS GOOD
+    pub accepted-good : Good (table-of n rs) (norms (table-of n rs))
+    unfolding table-of
+    accepted-good =
+        finite-good (table-of n rs) (table-closed n rs good)
+        (λ j h. none-zero (norms (table-of n rs)) (neither .0) j (omega (arith, length-norms)))
+
+-- good norms, read from the array
+pub array-good : (t : Table) (a : List ℕ) → Good t (norms t) → ExactNorms t a → Good t a
+array-good t a g e =
+    let same = sum-agree a (norms t) (e .at) in
+    record {
+      closed = g .closed;
+      slow = λ j b w h. omega (arith, g .slow j b w h, e .at j, same w);
+      falls = λ j h. let f = g .falls j h in (f .0, f .1, f .2, omega (arith, f .3, e .at j, same (f .1)));
+    }

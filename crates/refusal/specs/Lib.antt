@@ -1,0 +1,2 @@
+-- Refusals 6 to 9.
+pub mod Refusals

@@ -1,0 +1,61 @@
+-- Rows as parts of their region, and a plan's expansion from a place on. Assumes nothing.
+use mathlib.Core.Path.{_≡_}
+use mathlib.Core.Bool.{true}
+use mathlib.Core.List.{List, [], _∷_, _++_}
+use Prim.Native.Nat.{ℕ, zero, suc, _+_, _*_, _≤_, _<_}
+use native.Mathlib.Nat.{zero-add, suc-add}
+use native.Mathlib.Numerals.{add-one}
+use native.Mathlib.Omega.{arith}
+use lib.ListN.{length, getD, take, drop, drop-of-length-le}
+use lib.Seq.{take-nil, drop-cons, slice, slice-cons}
+use lib.Dec.{ltb}
+use borrow.Author.Tests.{ltb-true}
+use Rattle.bpa.specs.Plans.{all-below}
+use Rattle.bpa.specs.Method.{Rows, expand}
+use Rattle.bpa.proofs.Basics.Plans.{and-left, and-right}
+use Rattle.rows.specs.Region.{row, Within}
+
+pub below-at : (n : ℕ) (p : List ℕ) (i : ℕ) → all-below n p ≡ true → i < length p → getD p i 0 < n
+unfolding all-below
+below-at n [] i h l = absurd (omega arith)
+below-at n (x ∷ p) zero h l = ltb-true x n (and-left (ltb x n) (all-below n p) h)
+below-at n (x ∷ p) (suc i) h l = below-at n p i (and-right (ltb x n) (all-below n p) h) (omega arith)
+
+pub expand-at : (e : Rows) (p : List ℕ) (i : ℕ) → i < length p →
+    expand e (drop i p) ≡ e (getD p i 0) ++ expand e (drop (i + 1) p)
+unfolding expand
+expand-at e p i l = rw (drop-cons p i 0 l, add-one)
+
+pub expand-end : (e : Rows) (p : List ℕ) (i : ℕ) → length p ≤ i → expand e (drop i p) ≡ []
+unfolding expand
+expand-end e p i l = rw (drop-of-length-le p l)
+
+pub part : (a c : ℕ) (l : List ℕ) → take c (drop a l) ≡ slice a (a + c) l
+part zero c l = rw (zero-add c)
+part (suc a) c [] = rw (suc-add a c) (take-nil c)
+part (suc a) c (x ∷ l) = rw (suc-add a c) (part a c l)
+
+pub row-slice : (lens region : List ℕ) (j : ℕ) → row lens region j ≡ slice (512 * j) (512 * j + getD lens j 0) region
+unfolding row
+row-slice lens region j = part (512 * j) (getD lens j 0) region
+
+module _ (n : ℕ) (lens region : List ℕ) (w : Within n lens region) where
+  pub row-inside : (j : ℕ) → j < n → 512 * j + getD lens j 0 ≤ length region
+  row-inside j l = omega (arith, w .few, w .size, w .short j l)
+
+  -- the expansion of a plan from a place on, as a part of the region and the expansion behind it
+  pub enter : (p : List ℕ) (i : ℕ) → i < length p →
+      expand (row lens region) (drop i p)
+      ≡ slice (512 * getD p i 0) (512 * getD p i 0 + getD lens (getD p i 0) 0) region
+      ++ expand (row lens region) (drop (i + 1) p)
+  enter p i l = rw (expand-at (row lens region) p i l, row-slice lens region (getD p i 0))
+
+  pub enter-cons : (p : List ℕ) (i : ℕ) → all-below n p ≡ true → i < length p →
+      (x : ℕ) × (xs : List ℕ) × (expand (row lens region) (drop i p) ≡ x ∷ xs)
+  enter-cons p i b l =
+      let j = getD p i 0 in
+      let h : j < n = below-at n p i b l in (
+        getD region (512 * j) 0,
+        slice (suc (512 * j)) (512 * j + getD lens j 0) region ++ expand (row lens region) (drop (i + 1) p),
+        rw (enter p i l, slice-cons (512 * j) (512 * j + getD lens j 0) region 0 (omega (arith, w .some j h)) (row-inside j h)),
+      )

@@ -1,0 +1,3 @@
+-- Rules as bytes.
+pub mod Places
+pub mod Lists

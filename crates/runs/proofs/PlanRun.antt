@@ -1,0 +1,66 @@
+-- The run of a plan, job by job, and its answer. Assumes nothing.
+use mathlib.Core.Path.{_≡_, refl, sym, ap, ap₂, _∙_, subst}
+use mathlib.Core.Bool.{Bool, cond}
+use mathlib.Core.List.{List, [], _∷_}
+use Prim.Native.Nat.{ℕ, _+_, _≤_, _<_}
+use native.Mathlib.Numerals.{add-one}
+use native.Mathlib.Omega.{arith}
+use lib.IntN.{ℤ, pos, negsuc}
+use lib.ListN.{length, getD, drop, drop-of-length-le}
+use lib.Seq.{drop-cons}
+use borrow.Author.Tests.{lt-ltb, le-ltb}
+use Rattle.bpa.specs.Plans.{Table}
+use Rattle.bpa.specs.Norms.{sum-of, norms, norm}
+use Rattle.answer.specs.Answer.{signed}
+use Rattle.output.proofs.PutLaws.{put-front}
+use Rattle.runs.specs.Runs.{Written, room-refusal, Run-output, ShortestRun}
+use Rattle.runs.proofs.RunLaws.{written-more, written-waiting}
+
+module _ (t : Table) (p o : List ℕ) where
+  module _ (k to : ℕ) (out : List ℕ) (a : Written t p 0 o (drop k p) to out) where
+    pub plan-end : length p ≤ k → Written t p 0 o [] to out
+    plan-end h = subst (λ (q : List ℕ). Written t p 0 o q to out) (drop-of-length-le p h) a
+
+    -- x is the next job
+    module _ (h : k < length p) (x : ℕ) (is : x ≡ getD p k 0) where
+      head : drop k p ≡ x ∷ drop (k + 1) p
+      head = drop-cons p k 0 h ∙ ap₂ (λ (y i : ℕ). y ∷ drop i p) (sym is) (sym (add-one k))
+
+      left : Written t p 0 o (x ∷ drop (k + 1) p) to out
+      left = subst (λ (q : List ℕ). Written t p 0 o q to out) head a
+
+      -- there is room for the run of the next job
+      pub plan-room : norm t p ≤ length o → to + getD (norms t) x 0 ≤ length o
+      unfolding norm sum-of
+      plan-room l = omega (arith, left .next, left .falls)
+
+      pub plan-more : (r : ℕ) (out′ : List ℕ) → Written t (x ∷ []) to out [] r out′ → Written t p 0 o (drop (k + 1) p) r out′
+      plan-more r out′ b =
+          written-more t p (x ∷ drop (k + 1) p) (drop (k + 1) p) 0 to r o out out′ (omega arith) left
+          (written-waiting t (drop (k + 1) p) (x ∷ []) [] to r out out′ b)
+
+  -- the two answers
+  refused : length o < norm t p → room-refusal t p o ≡ 10
+  unfolding room-refusal
+  refused h = ap (λ (b : Bool). cond b 10 0) (lt-ltb (length o) (norm t p) h)
+
+  granted : norm t p ≤ length o → room-refusal t p o ≡ 0
+  unfolding room-refusal
+  granted h = ap (λ (b : Bool). cond b 10 0) (le-ltb (length o) (norm t p) h)
+
+  pub too-short : length o < norm t p → ShortestRun t p o (negsuc 9) o
+  unfolding signed
+  too-short h = record {
+    answer = ap (λ (f : ℕ). signed f (norm t p)) (sym (refused h));
+    output = subst (λ (f : ℕ). Run-output f t p o o) (sym (refused h)) refl;
+  }
+
+  pub whole-run : (r : ℤ) (n : ℕ) (o′ : List ℕ) → norm t p ≤ length o → Written t p 0 o [] n o′ → r ≡ pos n → ShortestRun t p o r o′
+  unfolding signed norm sum-of
+  whole-run r n o′ h a e =
+      let whole : length (a .run) ≡ norm t p = omega (arith, a .falls) in
+      let count : n ≡ norm t p = omega (arith, a .next) in
+      record {
+        answer = e ∙ ap pos count ∙ ap (λ (f : ℕ). signed f (norm t p)) (sym (granted h));
+        output = subst (λ (f : ℕ). Run-output f t p o o′) (sym (granted h)) (a .run, a .runs, whole, a .output ∙ put-front (a .run) o);
+      }

@@ -1,0 +1,2 @@
+-- Shortest runs.
+pub mod Runs

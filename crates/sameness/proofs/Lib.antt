@@ -1,0 +1,3 @@
+-- Laws of the calls with a workspace.
+pub mod Loaded
+pub mod Answers

@@ -1,0 +1,3 @@
+-- Laws of loading an image.
+pub mod Loading
+pub mod LoadingPlans

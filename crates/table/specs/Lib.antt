@@ -1,0 +1,2 @@
+-- The table of an image as the calls use it.
+pub mod Loading

@@ -1,0 +1,2 @@
+-- Laws of the workspace.
+pub mod Clearing

@@ -1,0 +1,142 @@
+/*
+ * gindrazoma: tables of rules, plans over them, sameness and prime forms.
+ *
+ * A job is a number below the table's job count. A move is a number 0 to 255. A rule says that a job
+ * may make a move and then becomes 0 to 4 jobs. A plan is a row of jobs, one byte a job; its first job
+ * moves and the others wait. The norm of a plan is the fewest moves that lead to the empty plan.
+ * Two plans are the same if they are bisimilar. docs/FORMAT.md describes the image of a table.
+ *
+ * EVERY CALL
+ *  - gives back one signed number: a refusal is its number (enum gindrazoma_refusal) made negative;
+ *    any other answer is 0 or more and is named at the call.
+ *  - makes its checks in the order of the refusals' numbers, each one over all blocks of the image, or
+ *    over the left and then the right plan, before the next. The first that fails is the answer.
+ *  - keeps nothing: no memory is allocated, no variable outlives the call, and the same input gives the
+ *    same answer and the same bytes. Any number of threads may call at once, each on areas of its own.
+ *
+ * AREAS
+ *  - An area is a pointer and a length in bytes. Areas of any length are accepted.
+ *  - A NULL pointer is allowed with length 0 only. With any other length it is the caller's fault.
+ *  - An area that is written to (output, workspace) overlaps no other area of the call. Areas that are
+ *    only read (image, rules, plans) may coincide.
+ *  - After a refusal the output area keeps its bytes. After an answer, its bytes beyond the answer's
+ *    output keep theirs. No byte of the output is written before refusal 10 is excluded.
+ *  - The workspace of compare and prime form may hold anything before the call and changes no answer.
+ *    After refusal 1 it keeps its bytes. After every other end its first GINDRAZOMA_WORKSPACE bytes are
+ *    zero, and later ones keep theirs.
+ */
+#ifndef GINDRAZOMA_H
+#define GINDRAZOMA_H
+
+#include <stddef.h>
+#include <stdint.h>
+
+#ifdef __cplusplus
+extern "C" {
+#endif
+
+/* The reasons for which a call is refused, in checking order. An answer is one of these made negative. */
+enum gindrazoma_refusal {
+    GINDRAZOMA_WORKSPACE_SHORT = 1, /* the workspace is shorter than 65,536 bytes */
+    GINDRAZOMA_BAD_LENGTH = 2,      /* the image is not 1 to 4 blocks of 512 bytes; the rules are not 1 to 252 of 8 bytes */
+    GINDRAZOMA_BAD_CHECKSUM = 3,    /* the checksum of some block is wrong */
+    GINDRAZOMA_BAD_HEADER = 4,      /* a job count, rule count, block number or number of blocks is wrong */
+    GINDRAZOMA_BAD_PLACE = 5,       /* a place has a job at or above the count, more than 4 jobs after, or a byte that should be 0 */
+    GINDRAZOMA_NO_NORM = 6,         /* some job can never finish; a job without rules is one */
+    GINDRAZOMA_JOB_NORM_HIGH = 7,   /* some job has a norm above 512 */
+    GINDRAZOMA_NO_SUCH_JOB = 8,     /* a plan names a job at or above the count */
+    GINDRAZOMA_PLAN_NORM_HIGH = 9,  /* a plan has a norm above 4,096 */
+    GINDRAZOMA_OUTPUT_SHORT = 10    /* the output area is shorter than the output */
+};
+
+/* Limits, and lengths in bytes. The lengths of output are enough for every accepted input. */
+enum {
+    GINDRAZOMA_JOBS_MAX = 24,        /* jobs of a table */
+    GINDRAZOMA_RULES_MAX = 252,      /* rules of a table */
+    GINDRAZOMA_AFTER_MAX = 4,        /* jobs after a move */
+    GINDRAZOMA_JOB_NORM_MAX = 512,   /* norm of a job */
+    GINDRAZOMA_PLAN_NORM_MAX = 4096, /* norm of a plan; its jobs are no more than that */
+    GINDRAZOMA_RULE_BYTES = 8,       /* a rule: job, move, number of jobs after, four bytes for them, a zero byte */
+    GINDRAZOMA_BLOCK_BYTES = 512,    /* a block of an image, with places for 63 rules */
+    GINDRAZOMA_IMAGE_MAX = 2048,     /* an image: what the writer writes */
+    GINDRAZOMA_RULE_LIST_MAX = 2016, /* a rule list: what the writer takes */
+    GINDRAZOMA_READ_MAX = 2017,      /* what the reader writes */
+    GINDRAZOMA_RUN_MAX = 4096,       /* what the shortest run writes */
+    GINDRAZOMA_MOVE_MAX = 4100,      /* what the n-th move writes */
+    GINDRAZOMA_FORM_MAX = 4096,      /* what the prime form writes */
+    GINDRAZOMA_WORKSPACE = 65536     /* the workspace of compare and prime form */
+};
+
+/*
+ * Reads an image: writes the job count in one byte and then the rules, 8 bytes each, in image order.
+ *
+ * Answer: the bytes written, 1 + 8 * rules, at most GINDRAZOMA_READ_MAX.
+ * Refusals: 2, 3, 4, 5, 6, 7, 10.
+ */
+int32_t gindrazoma_read_image(const uint8_t *image, size_t image_len, uint8_t *out, size_t out_len);
+
+/*
+ * Writes the image of a table from its job count and its rules, 8 bytes each as in a place of the image.
+ * The order of the rules is kept. What the reader writes after its first byte is such a rule list.
+ *
+ * Answer: the bytes written, 512 for each 63 rules begun, at most GINDRAZOMA_IMAGE_MAX.
+ * Refusals: 2 (rules_len is not 8 times 1 to 252), 4 (jobs is not 1 to 24), 5, 6, 7, 10.
+ */
+int32_t gindrazoma_write_image(uint32_t jobs, const uint8_t *rules, size_t rules_len, uint8_t *out, size_t out_len);
+
+/*
+ * The norm of a plan. A plan may have any length; every job of it is checked.
+ *
+ * Answer: the norm, 0 (the empty plan) to 4,096.
+ * Refusals: 2, 3, 4, 5, 6, 7, 8, 9.
+ */
+int32_t gindrazoma_plan_norm(const uint8_t *image, size_t image_len, const uint8_t *plan, size_t plan_len);
+
+/*
+ * A shortest run of a plan: writes moves, one byte each, that lead from the plan to the empty plan and
+ * are as many as its norm. Which of the shortest runs is not promised, but equal input gives an equal run.
+ *
+ * Answer: the bytes written, which is the norm, 0 to 4,096.
+ * Refusals: 2, 3, 4, 5, 6, 7, 8, 9, 10.
+ */
+int32_t gindrazoma_shortest_run(const uint8_t *image, size_t image_len, const uint8_t *plan, size_t plan_len,
+                                uint8_t *out, size_t out_len);
+
+/*
+ * The move of a plan at an index from 0, one for each rule of its first job in image order: writes the
+ * move in one byte and then the remaining plan.
+ *
+ * Answer: the bytes written, 1 or more; or 0, with nothing written, for "no such move": exactly if the
+ * plan is empty or the index is not below the number of its first job's rules. With 0 the output area
+ * may be of any length.
+ * Refusals: 2, 3, 4, 5, 6, 7, 8, 9, 10.
+ */
+int32_t gindrazoma_nth_move(const uint8_t *image, size_t image_len, const uint8_t *plan, size_t plan_len, uint32_t index,
+                            uint8_t *out, size_t out_len);
+
+/*
+ * Compares two plans over one table. The workspace has GINDRAZOMA_WORKSPACE bytes or more.
+ *
+ * Answer: 1 if the plans are the same (bisimilar), 0 if they are apart.
+ * Refusals: 1, 2, 3, 4, 5, 6, 7, 8, 9; 8 of either plan comes before 9 of either.
+ */
+int32_t gindrazoma_compare(const uint8_t *image, size_t image_len, const uint8_t *left, size_t left_len,
+                           const uint8_t *right, size_t right_len, uint8_t *space, size_t space_len);
+
+/*
+ * The prime form of a plan: writes a row of jobs that is the same as the plan, in which no job is the
+ * same as a plan of two or more jobs, nor the same as a lower-numbered job. Two plans over one table have
+ * equal prime forms exactly if they are the same, and no plan that is the same has more jobs.
+ * The workspace has GINDRAZOMA_WORKSPACE bytes or more.
+ *
+ * Answer: the bytes written, one for each job, 0 (the empty plan) to 4,096.
+ * Refusals: 1, 2, 3, 4, 5, 6, 7, 8, 9, 10.
+ */
+int32_t gindrazoma_prime_form(const uint8_t *image, size_t image_len, const uint8_t *plan, size_t plan_len,
+                              uint8_t *out, size_t out_len, uint8_t *space, size_t space_len);
+
+#ifdef __cplusplus
+}
+#endif
+
+#endif

@@ -1,0 +1,53 @@
+use std::fmt;
+
+/// A reason for which a call is refused.
+#[derive(Clone, Copy, Debug, PartialEq, Eq, Hash)]
+#[repr(u8)]
+pub enum Refusal {
+    WorkspaceShort = 1,
+    BadLength = 2,
+    BadChecksum = 3,
+    BadHeader = 4,
+    BadPlace = 5,
+    NoNorm = 6,
+    JobNormHigh = 7,
+    NoSuchJob = 8,
+    PlanNormHigh = 9,
+    OutputShort = 10,
+}
+
+const ALL: [(Refusal, &str); 10] = [
+    (Refusal::WorkspaceShort, "the workspace is shorter than 65,536 bytes"),
+    (Refusal::BadLength, "the image is not 1 to 4 blocks, or the rules are not 1 to 252"),
+    (Refusal::BadChecksum, "the checksum of a block is wrong"),
+    (Refusal::BadHeader, "a job count, rule count, block number or number of blocks is wrong"),
+    (Refusal::BadPlace, "a rule names a job at or above the count, more than 4 jobs after, or has a byte that should be 0"),
+    (Refusal::NoNorm, "a job can never finish"),
+    (Refusal::JobNormHigh, "a job has a norm above 512"),
+    (Refusal::NoSuchJob, "a plan names a job at or above the count"),
+    (Refusal::PlanNormHigh, "a plan has a norm above 4,096"),
+    (Refusal::OutputShort, "the output area is shorter than the output"),
+];
+
+impl Refusal {
+    /// Its number, 1 to 10.
+    pub fn number(self) -> u8 {
+        self as u8
+    }
+
+    /// An answer of the library as a result.
+    pub(crate) fn check(answer: i32) -> Result<usize, Refusal> {
+        match usize::try_from(answer) {
+            Ok(result) => Ok(result),
+            Err(_) => Err(ALL[(-answer - 1) as usize].0),
+        }
+    }
+}
+
+impl fmt::Display for Refusal {
+    fn fmt(&self, f: &mut fmt::Formatter<'_>) -> fmt::Result {
+        write!(f, "refused {}: {}", self.number(), ALL[self.number() as usize - 1].1)
+    }
+}
+
+impl std::error::Error for Refusal {}

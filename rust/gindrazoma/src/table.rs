@@ -1,0 +1,124 @@
+use crate::{raw, Refusal};
+
+/// A job may make a move and then becomes 0 to 4 jobs.
+#[derive(Clone, Debug, PartialEq, Eq, Hash)]
+pub struct Rule {
+    pub job: u8,
+    pub action: u8,
+    pub after: Vec<u8>,
+}
+
+impl Rule {
+    pub fn new(job: u8, action: u8, after: &[u8]) -> Rule {
+        Rule { job, action, after: after.to_vec() }
+    }
+
+    /// The rule as 8 bytes; more than four jobs after give a place that is refused.
+    fn place(&self) -> [u8; 8] {
+        let mut place = [self.job, self.action, self.after.len().min(255) as u8, 0, 0, 0, 0, 0];
+        for (byte, &job) in place[3..7].iter_mut().zip(&self.after) {
+            *byte = job;
+        }
+        place
+    }
+
+    fn of_place(place: &[u8]) -> Rule {
+        Rule::new(place[0], place[1], &place[3..3 + place[2] as usize])
+    }
+}
+
+/// A move of a plan with the plan that remains.
+#[derive(Clone, Debug, PartialEq, Eq, Hash)]
+pub struct Move {
+    pub action: u8,
+    pub rest: Vec<u8>,
+}
+
+/// The memory that a comparison works in; it may serve any number of calls, one after the other.
+pub struct Workspace(Vec<u8>);
+
+impl Workspace {
+    pub fn new() -> Workspace {
+        Workspace(vec![0; 65536])
+    }
+}
+
+impl Default for Workspace {
+    fn default() -> Workspace {
+        Workspace::new()
+    }
+}
+
+/// A table whose image is accepted.
+#[derive(Clone, Debug, PartialEq, Eq, Hash)]
+pub struct Table {
+    image: Vec<u8>,
+    jobs: u8,
+    rules: Vec<Rule>,
+}
+
+/// What a call writes into an area of a length, cut to what it wrote.
+#[inline]
+fn written(len: usize, call: impl FnOnce(&mut [u8]) -> i32) -> Result<Vec<u8>, Refusal> {
+    let mut out = vec![0; len];
+    let used = Refusal::check(call(&mut out))?;
+    out.truncate(used);
+    Ok(out)
+}
+
+impl Table {
+    pub fn from_image(image: &[u8]) -> Result<Table, Refusal> {
+        let read = written(2017, |out| raw::read_image(image, out))?;
+        let rules = read[1..].chunks_exact(8).map(Rule::of_place).collect();
+        Ok(Table { image: image.to_vec(), jobs: read[0], rules })
+    }
+
+    pub fn from_rules(jobs: u32, rules: &[Rule]) -> Result<Table, Refusal> {
+        let places: Vec<u8> = rules.iter().flat_map(Rule::place).collect();
+        Table::from_image(&written(2048, |out| raw::write_image(jobs, &places, out))?)
+    }
+
+    pub fn image(&self) -> &[u8] {
+        &self.image
+    }
+
+    pub fn jobs(&self) -> u8 {
+        self.jobs
+    }
+
+    /// The rules in image order.
+    pub fn rules(&self) -> &[Rule] {
+        &self.rules
+    }
+
+    /// The fewest moves that lead from a plan to the empty plan.
+    #[inline]
+    pub fn norm(&self, plan: &[u8]) -> Result<usize, Refusal> {
+        Refusal::check(raw::plan_norm(&self.image, plan))
+    }
+
+    /// Moves that lead from a plan to the empty plan, as few as can be.
+    #[inline]
+    pub fn shortest_run(&self, plan: &[u8]) -> Result<Vec<u8>, Refusal> {
+        written(4096, |out| raw::shortest_run(&self.image, plan, out))
+    }
+
+    /// The move of a plan at an index, one for each rule of its first job in image order.
+    #[inline]
+    pub fn nth_move(&self, plan: &[u8], index: u32) -> Result<Option<Move>, Refusal> {
+        let out = written(4100, |out| raw::nth_move(&self.image, plan, index, out))?;
+        Ok(out.split_first().map(|(&action, rest)| Move { action, rest: rest.to_vec() }))
+    }
+
+    /// Whether two plans are bisimilar.
+    #[inline]
+    pub fn same(&self, space: &mut Workspace, left: &[u8], right: &[u8]) -> Result<bool, Refusal> {
+        Refusal::check(raw::compare(&self.image, left, right, &mut space.0)).map(|answer| answer == 1)
+    }
+
+    /// The prime form of a plan: equal for two plans exactly if they are bisimilar.
+    #[inline]
+    pub fn prime_form(&self, space: &mut Workspace, plan: &[u8]) -> Result<Vec<u8>, Refusal> {
+        written(4096, |out| raw::prime_form(&self.image, plan, out, &mut space.0))
+    }
+}

@@ -1,0 +1,34 @@
+//! Norms, moves and shortest runs.
+use gindrazoma::{Move, Refusal, Rule, Table};
+
+fn table() -> Table {
+    let rules = [Rule::new(0, 97, &[]), Rule::new(1, 97, &[0]), Rule::new(1, 98, &[1, 0]), Rule::new(2, 99, &[1])];
+    Table::from_rules(3, &rules).unwrap()
+}
+
+#[test]
+fn norms() {
+    assert_eq!(table().norm(&[]), Ok(0));
+    assert_eq!(table().norm(&[2, 1, 0]), Ok(6));
+    assert_eq!(table().norm(&[3]), Err(Refusal::NoSuchJob));
+    assert_eq!(table().norm(&[0; 4096]), Ok(4096));
+    assert_eq!(table().norm(&[0; 4097]), Err(Refusal::PlanNormHigh));
+}
+
+#[test]
+fn moves() {
+    let t = table();
+    assert_eq!(t.nth_move(&[1, 2], 0), Ok(Some(Move { action: 97, rest: vec![0, 2] })));
+    assert_eq!(t.nth_move(&[1, 2], 1), Ok(Some(Move { action: 98, rest: vec![1, 0, 2] })));
+    assert_eq!(t.nth_move(&[1, 2], 2), Ok(None));
+    assert_eq!(t.nth_move(&[0], 0), Ok(Some(Move { action: 97, rest: vec![] })));
+    assert_eq!(t.nth_move(&[], 0), Ok(None));
+    assert_eq!(t.nth_move(&[9], 0), Err(Refusal::NoSuchJob));
+}
+
+#[test]
+fn runs() {
+    assert_eq!(table().shortest_run(&[]), Ok(vec![]));
+    assert_eq!(table().shortest_run(&[2, 0]), Ok(vec![99, 97, 97, 97]));
+    assert_eq!(table().shortest_run(&[0; 4097]), Err(Refusal::PlanNormHigh));
+}

@@ -1,0 +1,75 @@
+/* Cases, areas with guard bytes, and tables written from docs/FORMAT.md: what the C tests are made of. */
+#ifndef CHECK_H
+#define CHECK_H
+
+#include <stddef.h>
+#include <stdint.h>
+
+/* Cases. A case fails if a CHECK in it does; run_cases prints the count and gives main's result. */
+struct check_case {
+    const char *name;
+    void (*run)(void);
+};
+
+int run_cases(const struct check_case *cases, size_t count);
+void check_true(int holds, const char *what, const char *file, int line);
+void check_equal(long long got, long long wanted, const char *what, const char *file, int line);
+
+#define CHECK(x) check_true((x) != 0, #x, __FILE__, __LINE__)
+#define CHECK_EQ(got, wanted) check_equal((got), (wanted), #got, __FILE__, __LINE__)
+
+/* Nonzero where only few rounds are wanted, as under valgrind (SMALL=1). */
+int small_run(void);
+
+/* Random numbers from a fixed seed, or from SEED. */
+uint64_t random_number(void);
+uint32_t random_below(uint32_t n);
+
+/*
+ * Areas. One to write to has random bytes in it and guard bytes around it. The word AREAS of the environment asks for
+ * other ones: with "exact" each area is a block of its own of just its length, and one to write to has nothing written
+ * in it, for valgrind to watch; with "pages" it ends at, or starts from, a page that may not be touched.
+ */
+struct area {
+    uint8_t *bytes;
+    size_t len;
+    uint8_t *block, *before; /* the bytes with the guards, now and as they were; before is NULL if nothing is known of it */
+    size_t guard;
+    void *pages;
+    size_t pages_len;
+};
+
+struct area area_new(size_t len);
+struct area area_copy(const void *bytes, size_t len); /* one to read from */
+int area_kept(const struct area *a, size_t from);     /* bytes from there on and the guards are as they were */
+int area_same(const struct area *a);                  /* an area to read from is as it was */
+int area_zero(const struct area *a, size_t len);      /* that many bytes are zero */
+void area_free(struct area *a);
+
+/* Tables as a job count and 8-byte rules. */
+struct table {
+    uint32_t jobs;
+    size_t rules;
+    uint8_t bytes[8 * 300];
+};
+
+struct table table_new(uint32_t jobs);
+void add_rule(struct table *t, int job, int move, int after, int a, int b, int c, int d);
+void rule0(struct table *t, int job, int move);
+void rule1(struct table *t, int job, int move, int a);
+void rule2(struct table *t, int job, int move, int a, int b);
+size_t rule_bytes(const struct table *t);
+size_t image_of(const struct table *t, uint8_t *image); /* into 2,560 bytes or more; its length */
+void seal(uint8_t *block);                              /* sets the checksum */
+
+struct table table_t(void);          /* document 01's table T */
+struct table table_s(void);          /* S1 = 0, X = 1, S2 = 2, B = 3, C = 4 */
+struct table table_xyz(void);        /* X = 0, Y = 1, Z = 2 */
+struct table table_doubling(int n);  /* job k: a, then job k-1 twice */
+struct table table_full(int rules);  /* 24 jobs and this number of rules, 24 or more: job k: a, then job k-1 */
+
+/* The refusal of an image or a rule list, 2 to 7 or 0 for none, worked out from the documents. */
+int refusal_of_image(const uint8_t *image, size_t len);
+int refusal_of_list(uint32_t jobs, const uint8_t *rules, size_t len);
+
+#endif

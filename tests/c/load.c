@@ -1,0 +1,208 @@
+/* Many calls: from 8 threads at once, a million in a row, and the stack that a call needs. */
+#define _POSIX_C_SOURCE 200809L
+#include "check.h"
+#include "gindrazoma.h"
+
+#include <pthread.h>
+#include <stdio.h>
+#include <stdlib.h>
+#include <string.h>
+
+enum { SPACE = 65536, OUT = 4100, TABLES = 6, CALLS = 256, THREADS = 8, STACK = 1 << 20 };
+
+static struct table tables[TABLES];
+static uint8_t images[TABLES][2560];
+static size_t image_lens[TABLES];
+
+/* A call with the answer that it gave when it was alone. */
+struct call {
+    int which, table;
+    uint8_t left[40], right[40];
+    size_t left_len, right_len, out_len;
+    uint32_t index;
+    int32_t answer;
+    uint8_t out[OUT];
+};
+
+static struct call calls[CALLS];
+
+struct areas {
+    uint8_t out[OUT];
+    uint8_t space[SPACE + 8];
+};
+
+static int32_t make(const struct call *c, struct areas *a)
+{
+    const uint8_t *image = images[c->table];
+    size_t len = image_lens[c->table];
+    const struct table *t = &tables[c->table];
+    switch (c->which) {
+    case 0: return gindrazoma_read_image(image, len, a->out, c->out_len);
+    case 1: return gindrazoma_write_image(t->jobs, t->bytes, rule_bytes(t), a->out, c->out_len);
+    case 2: return gindrazoma_plan_norm(image, len, c->left, c->left_len);
+    case 3: return gindrazoma_shortest_run(image, len, c->left, c->left_len, a->out, c->out_len);
+    case 4: return gindrazoma_nth_move(image, len, c->left, c->left_len, c->index, a->out, c->out_len);
+    case 5: return gindrazoma_compare(image, len, c->left, c->left_len, c->right, c->right_len, a->space, SPACE + c->index);
+    default: return gindrazoma_prime_form(image, len, c->left, c->left_len, a->out, c->out_len, a->space, SPACE + c->index);
+    }
+}
+
+static size_t random_plan(uint8_t *plan, uint32_t jobs)
+{
+    size_t n = random_below(20);
+    for (size_t i = 0; i < n; i++)
+        plan[i] = (uint8_t)random_below(jobs);
+    if (n > 0 && random_below(20) == 0)
+        plan[n - 1] = (uint8_t)jobs;
+    return n;
+}
+
+static void prepare(void)
+{
+    static struct areas a;
+    tables[0] = table_t();
+    tables[1] = table_s();
+    tables[2] = table_xyz();
+    tables[3] = table_doubling(9);
+    tables[4] = table_full(40);
+    tables[5] = table_full(252);
+    for (int i = 0; i < TABLES; i++)
+        image_lens[i] = image_of(&tables[i], images[i]);
+    for (int i = 0; i < CALLS; i++) {
+        struct call *c = &calls[i];
+        c->which = i % 7;
+        c->table = (int)random_below(random_below(4) ? 5 : 6);
+        c->left_len = random_plan(c->left, tables[c->table].jobs);
+        c->right_len = random_plan(c->right, tables[c->table].jobs);
+        c->index = random_below(8);
+        c->out_len = random_below(4) ? OUT : random_below(30);
+        memset(a.out, 0, OUT);
+        c->answer = make(c, &a);
+        memcpy(c->out, a.out, OUT);
+    }
+}
+
+static int as_alone(const struct call *c, struct areas *a)
+{
+    memset(a->out, 0, OUT);
+    return make(c, a) == c->answer && memcmp(a->out, c->out, OUT) == 0;
+}
+
+static void *many_calls(void *seed)
+{
+    uint64_t state = *(uint64_t *)seed;
+    struct areas *a = malloc(sizeof *a);
+    size_t wrong = 0;
+    int count = small_run() ? 50 : 20000;
+    memset(a->space, (int)state, sizeof a->space);
+    for (int i = 0; i < count; i++) {
+        state = state * 6364136223846793005u + 1442695040888963407u;
+        wrong += !as_alone(&calls[(state >> 33) % CALLS], a);
+    }
+    free(a);
+    *(uint64_t *)seed = wrong;
+    return NULL;
+}
+
+static void eight_threads(void)
+{
+    pthread_t threads[THREADS];
+    uint64_t seeds[THREADS];
+    for (int i = 0; i < THREADS; i++) {
+        seeds[i] = (uint64_t)i + 1;
+        CHECK(pthread_create(&threads[i], NULL, many_calls, &seeds[i]) == 0);
+    }
+    for (int i = 0; i < THREADS; i++) {
+        CHECK(pthread_join(threads[i], NULL) == 0);
+        CHECK_EQ(seeds[i], 0);
+    }
+}
+
+/* Pages in all, and pages in memory. */
+static void memory_now(long pages[2])
+{
+    FILE *f = fopen("/proc/self/statm", "r");
+    pages[0] = pages[1] = 0;
+    if (f != NULL) {
+        CHECK(fscanf(f, "%ld %ld", &pages[0], &pages[1]) == 2);
+        fclose(f);
+    }
+}
+
+static void million_calls(void)
+{
+    static struct areas a;
+    long before[2], after[2];
+    int count = small_run() ? 500 : 1000000, wrong = 0;
+    for (int i = 0; i < CALLS; i++)
+        wrong += !as_alone(&calls[i], &a);
+    memory_now(before);
+    memory_now(before);
+    for (int i = 0; i < count; i++)
+        wrong += !as_alone(&calls[random_below(CALLS)], &a);
+    memory_now(after);
+    CHECK_EQ(wrong, 0);
+    if (!small_run()) {
+        CHECK_EQ(after[0], before[0]);
+        CHECK(after[1] - before[1] <= 4);
+    }
+    printf("%d calls: %ld pages before, %ld after\n", count, before[1], after[1]);
+}
+
+/* The stack that one call needs: a thread runs it on a painted stack. NULL: no call. */
+static void *one_call(void *call)
+{
+    static struct areas a;
+    if (call != NULL)
+        make(call, &a);
+    return NULL;
+}
+
+static size_t stack_of(struct call *c)
+{
+    uint8_t *stack = NULL;
+    size_t untouched = 0;
+    pthread_attr_t attr;
+    pthread_t thread;
+    if (posix_memalign((void **)&stack, 4096, STACK) != 0)
+        exit(1);
+    memset(stack, 0xa5, STACK);
+    CHECK(pthread_attr_init(&attr) == 0 && pthread_attr_setstack(&attr, stack, STACK) == 0);
+    CHECK(pthread_create(&thread, &attr, one_call, c) == 0 && pthread_join(thread, NULL) == 0);
+    pthread_attr_destroy(&attr);
+    while (untouched < STACK && stack[untouched] == 0xa5)
+        untouched++;
+    free(stack);
+    return STACK - untouched;
+}
+
+static void stack_under_16_kib(void)
+{
+    static const char *const names[] = { "read_image", "write_image", "plan_norm", "shortest_run", "nth_move", "compare", "prime_form" };
+    size_t most[7] = { 0 }, none;
+    if (small_run())
+        return; /* valgrind does not let a stack be looked at */
+    none = stack_of(NULL);
+    for (int i = 0; i < CALLS; i++) {
+        size_t used = stack_of(&calls[i]);
+        used = used > none ? used - none : 0;
+        if (used > most[calls[i].which])
+            most[calls[i].which] = used;
+    }
+    for (int i = 0; i < 7; i++) {
+        printf("stack of %s: %zu bytes\n", names[i], most[i]);
+        CHECK(most[i] < 16384);
+    }
+}
+
+static const struct check_case cases[] = {
+    { "calls from 8 threads at once", eight_threads },
+    { "a million calls, no growth of memory", million_calls },
+    { "stack under 16 KiB", stack_under_16_kib },
+};
+
+int main(void)
+{
+    prepare();
+    return run_cases(cases, sizeof cases / sizeof cases[0]);
+}

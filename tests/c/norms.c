@@ -1,0 +1,427 @@
+/* Norms of plans, moves by index and shortest runs. */
+#include "check.h"
+#include "gindrazoma.h"
+
+#include <stdio.h>
+#include <stdlib.h>
+#include <string.h>
+
+static uint8_t image[2560];
+static size_t image_len;
+
+static void use(const struct table *t)
+{
+    image_len = image_of(t, image);
+}
+
+static int32_t norm_of(const uint8_t *plan, size_t len)
+{
+    struct area in = area_copy(image, image_len), p = area_copy(plan, len);
+    int32_t got = gindrazoma_plan_norm(in.bytes, in.len, p.bytes, p.len);
+    CHECK(area_same(&in) && area_same(&p));
+    area_free(&in);
+    area_free(&p);
+    return got;
+}
+
+static int32_t norm_of_job(int job)
+{
+    uint8_t plan = (uint8_t)job;
+    return norm_of(&plan, 1);
+}
+
+/* A plan of one job again and again. */
+static uint8_t *repeated(int job, size_t len)
+{
+    uint8_t *plan = malloc(len);
+    if (plan == NULL)
+        exit(1);
+    memset(plan, job, len);
+    return plan;
+}
+
+static int32_t norm_of_repeated(int job, size_t len)
+{
+    uint8_t *plan = repeated(job, len);
+    int32_t got = gindrazoma_plan_norm(image, image_len, plan, len);
+    free(plan);
+    return got;
+}
+
+/* The move at an index on an output area of a length; the output is held to what is wanted. */
+static int32_t move_at(const uint8_t *plan, size_t len, uint32_t index, size_t out_len, const uint8_t *wanted, int32_t want)
+{
+    struct area in = area_copy(image, image_len), p = area_copy(plan, len), out = area_new(out_len);
+    int32_t got = gindrazoma_nth_move(in.bytes, in.len, p.bytes, p.len, index, out.bytes, out.len);
+    CHECK(area_same(&in) && area_same(&p));
+    CHECK(area_kept(&out, got == want && want > 0 ? (size_t)want : 0));
+    if (got == want && want > 0)
+        CHECK(memcmp(out.bytes, wanted, (size_t)want) == 0);
+    area_free(&in);
+    area_free(&p);
+    area_free(&out);
+    return got;
+}
+
+/* From each place of `now` on, a row of jobs is done one after the other: `now` becomes the places at which it can be
+   done. ends[j][i][f] says that job j, begun at place i of a run, can be done at place f. */
+static void follow(const uint8_t *ends, size_t wide, const uint8_t *row, size_t len, uint8_t *now, uint8_t *next)
+{
+    for (size_t k = 0; k < len; k++) {
+        memset(next, 0, wide);
+        for (size_t e = 0; e < wide; e++)
+            for (size_t f = e; now[e] && f < wide; f++)
+                next[f] |= ends[(row[k] * wide + e) * wide + f];
+        memcpy(now, next, wide);
+    }
+}
+
+/* One rule taken at place i of the run; whether that says something new. */
+static int take_rule(uint8_t *ends, size_t wide, const uint8_t *rule, size_t i, uint8_t *now, uint8_t *next)
+{
+    int news = 0;
+    memset(now, 0, wide);
+    now[i + 1] = 1;
+    follow(ends, wide, rule + 3, rule[2], now, next);
+    for (size_t f = 0; f < wide; f++) {
+        uint8_t *end = &ends[(rule[0] * wide + i) * wide + f];
+        news |= now[f] && !*end;
+        *end |= now[f];
+    }
+    return news;
+}
+
+/* Whether moves can lead from a plan to the empty plan. */
+static int leads_to_end(const struct table *t, const uint8_t *plan, size_t len, const uint8_t *run, size_t moves)
+{
+    size_t wide = moves + 1;
+    uint8_t *ends = calloc(24 * wide * wide, 1), *now = calloc(2 * wide, 1), *next = now + wide;
+    if (ends == NULL || now == NULL)
+        exit(1);
+    for (size_t i = moves; i-- > 0;)
+        for (int news = 1; news;) {
+            news = 0;
+            for (size_t r = 0; r < t->rules; r++)
+                if (t->bytes[8 * r + 1] == run[i])
+                    news |= take_rule(ends, wide, t->bytes + 8 * r, i, now, next);
+        }
+    memset(now, 0, wide);
+    now[0] = 1;
+    follow(ends, wide, plan, len, now, next);
+    int done = now[moves];
+    free(ends);
+    free(now);
+    return done;
+}
+
+/* A shortest run on output areas beyond, at and below its length; the run is replayed. */
+static void run_of(const struct table *t, const uint8_t *plan, size_t len, int32_t norm)
+{
+    struct area in = area_copy(image, image_len), p = area_copy(plan, len);
+    for (size_t beyond = 0; beyond < 3; beyond++) {
+        struct area out = area_new((size_t)norm + beyond);
+        CHECK_EQ(gindrazoma_shortest_run(in.bytes, in.len, p.bytes, p.len, out.bytes, out.len), norm);
+        CHECK(area_kept(&out, (size_t)norm));
+        if (t != NULL)
+            CHECK(leads_to_end(t, plan, len, out.bytes, (size_t)norm));
+        area_free(&out);
+    }
+    if (norm > 0) {
+        struct area out = area_new((size_t)norm - 1);
+        CHECK_EQ(gindrazoma_shortest_run(in.bytes, in.len, p.bytes, p.len, out.bytes, out.len), -10);
+        CHECK(area_kept(&out, 0));
+        area_free(&out);
+    }
+    CHECK(area_same(&in) && area_same(&p));
+    area_free(&in);
+    area_free(&p);
+}
+
+static void norms_of_table_t(void)
+{
+    struct table t = table_t();
+    use(&t);
+    const int32_t wanted[] = { 1, 2, 3, 2, -8, -8 };
+    for (int j = 0; j < 6; j++)
+        CHECK_EQ(norm_of_job(j), wanted[j]);
+    CHECK_EQ(norm_of((const uint8_t *)"\2\3", 2), 5);
+    CHECK_EQ(norm_of(NULL, 0), 0);
+}
+
+static void norms_511_512_513(void)
+{
+    struct table t = table_doubling(9);
+    use(&t);
+    CHECK_EQ(norm_of_job(8), 511);
+    t.jobs = 10;
+    rule1(&t, 9, 'a', 8);
+    use(&t);
+    CHECK_EQ(norm_of_job(9), 512);
+    t.jobs = 11;
+    rule1(&t, 10, 'a', 9);
+    use(&t);
+    CHECK_EQ(norm_of_job(0), -7);
+    rule0(&t, 10, 'b');
+    use(&t);
+    CHECK_EQ(norm_of_job(10), 1);
+    t = table_doubling(10);
+    use(&t);
+    CHECK_EQ(norm_of_job(0), -7);
+    CHECK_EQ(norm_of(NULL, 0), -7);
+}
+
+/* Jobs whose norms, taken modulo 2^8, 2^16 or 2^32, would be small again. */
+static void sums_that_wrap(void)
+{
+    struct table t = table_doubling(16);
+    t.jobs = 18;
+    rule1(&t, 16, 'a', 15); /* 2^16 */
+    rule1(&t, 17, 'a', 16);
+    use(&t);
+    CHECK_EQ(norm_of_job(17), -7);
+
+    t = table_new(18);
+    rule0(&t, 0, 'a');
+    for (int k = 1; k < 16; k++)
+        add_rule(&t, k, 'a', 4, k - 1, k - 1, k - 1, k - 1);
+    add_rule(&t, 16, 'a', 3, 15, 15, 15, 0); /* 1 + 3 * (4^16 - 1) / 3 = 2^32 */
+    rule1(&t, 17, 'a', 16);
+    use(&t);
+    CHECK_EQ(norm_of_job(17), -7);
+    rule0(&t, 17, 'a');
+    use(&t);
+    CHECK_EQ(norm_of_job(17), -7);
+
+    t = table_new(24);
+    rule0(&t, 0, 'a');
+    for (int k = 1; k < 24; k++)
+        add_rule(&t, k, 'a', 4, k - 1, k - 1, k - 1, k - 1);
+    use(&t);
+    CHECK_EQ(norm_of_job(0), -7);
+
+    t = table_doubling(9); /* 255 + 1 and 511: nothing wraps at 2^8 */
+    t.jobs = 10;
+    rule1(&t, 9, 'a', 7);
+    use(&t);
+    CHECK_EQ(norm_of_job(9), 256);
+}
+
+static void plans_of_4096(void)
+{
+    struct table t = table_doubling(9);
+    t.jobs = 10;
+    rule1(&t, 9, 'a', 8);
+    use(&t);
+    CHECK_EQ(norm_of_repeated(9, 8), 4096);
+    CHECK_EQ(norm_of_repeated(9, 9), -9);
+    CHECK_EQ(norm_of((const uint8_t *)"\11\11\11\11\11\11\11\11\0", 9), -9); /* 4,097 */
+    CHECK_EQ(norm_of_repeated(0, 4095), 4095);
+    CHECK_EQ(norm_of_repeated(0, 4096), 4096);
+    CHECK_EQ(norm_of_repeated(0, 4097), -9);
+    CHECK_EQ(norm_of_repeated(0, 65536), -9);
+    CHECK_EQ(norm_of_repeated(9, 128), -9); /* 2^16 */
+    if (!small_run()) {
+        CHECK_EQ(norm_of_repeated(9, 8388608), -9); /* 2^32 */
+        CHECK_EQ(norm_of_repeated(9, 8388616), -9); /* 2^32 + 4096 */
+    }
+}
+
+static void no_such_job(void)
+{
+    struct table t = table_t();
+    use(&t);
+    const size_t lens[] = { 1, 2, 4096, 4097, 5000, 70000 };
+    for (size_t i = 0; i < sizeof lens / sizeof lens[0]; i++) {
+        const size_t places[] = { 0, lens[i] / 2, lens[i] - 1 };
+        for (int k = 0; k < 3; k++) {
+            uint8_t *plan = repeated(0, lens[i]), out[4];
+            plan[places[k]] = (uint8_t)(k == 1 ? 255 : 4);
+            CHECK_EQ(gindrazoma_plan_norm(image, image_len, plan, lens[i]), -8);
+            CHECK_EQ(gindrazoma_shortest_run(image, image_len, plan, lens[i], out, 0), -8);
+            CHECK_EQ(gindrazoma_nth_move(image, image_len, plan, lens[i], 0, out, 0), -8);
+            free(plan);
+        }
+    }
+}
+
+/* Every index of every first job, with and without jobs behind it. */
+static void every_move(const struct table *t)
+{
+    use(t);
+    for (uint32_t j = 0; j < t->jobs; j++) {
+        for (size_t behind = 0; behind < 4; behind++) {
+            uint8_t plan[4] = { (uint8_t)j, 0, (uint8_t)(t->jobs - 1), 0 }, wanted[16];
+            uint32_t index = 0;
+            for (size_t r = 0; r < t->rules; r++) {
+                const uint8_t *p = t->bytes + 8 * r;
+                if (p[0] != j)
+                    continue;
+                size_t need = 1u + p[2] + behind;
+                wanted[0] = p[1];
+                memcpy(wanted + 1, p + 3, p[2]);
+                memcpy(wanted + 1 + p[2], plan + 1, behind);
+                for (size_t beyond = 0; beyond < 3; beyond++)
+                    CHECK_EQ(move_at(plan, 1 + behind, index, need + beyond, wanted, (int32_t)need), (int32_t)need);
+                CHECK_EQ(move_at(plan, 1 + behind, index, need - 1, NULL, -10), -10);
+                CHECK_EQ(move_at(plan, 1 + behind, index, 0, NULL, -10), -10);
+                index++;
+            }
+            const uint32_t beyond[] = { 0, 1, 255, 256, 65535, 65536 };
+            for (size_t i = 0; i < 6; i++)
+                CHECK_EQ(move_at(plan, 1 + behind, index + beyond[i], i * 10, NULL, 0), 0);
+            CHECK_EQ(move_at(plan, 1 + behind, 4294967295u, 9, NULL, 0), 0);
+        }
+    }
+}
+
+static void moves(void)
+{
+    const int rules[] = { 24, 63, 64, 252 };
+    struct table t = table_t();
+    every_move(&t);
+    t = table_s();
+    every_move(&t);
+    t = table_xyz();
+    every_move(&t);
+    for (int i = 0; i < 4; i++) {
+        t = table_full(rules[i]);
+        every_move(&t);
+    }
+    t = table_new(1); /* one job with every move, and each of them twice */
+    for (int i = 0; i < 252; i++)
+        add_rule(&t, 0, i / 2, i % 4, 0, 0, 0, 0);
+    every_move(&t);
+}
+
+static void moves_of_long_plans(void)
+{
+    struct table t = table_new(1);
+    rule0(&t, 0, 0);
+    add_rule(&t, 0, 255, 4, 0, 0, 0, 0);
+    use(&t);
+    uint8_t *plan = repeated(0, 4097), wanted[4100] = { 0 };
+    CHECK_EQ(move_at(plan, 4096, 0, 4096, wanted, 4096), 4096);
+    CHECK_EQ(move_at(plan, 4096, 0, 4095, NULL, -10), -10);
+    wanted[0] = 255;
+    CHECK_EQ(move_at(plan, 4096, 1, 4100, wanted, 4100), 4100);
+    CHECK_EQ(move_at(plan, 4096, 1, 4099, NULL, -10), -10);
+    CHECK_EQ(move_at(plan, 4096, 2, 4100, NULL, 0), 0);
+    CHECK_EQ(move_at(plan, 4097, 0, 4100, NULL, -9), -9);
+    CHECK_EQ(move_at(plan, 4097, 9, 0, NULL, -9), -9);
+    free(plan);
+}
+
+static void shortest_runs(void)
+{
+    struct table tables[] = { table_t(), table_s(), table_xyz(), table_full(24), table_full(252) };
+    for (size_t i = 0; i < sizeof tables / sizeof tables[0]; i++) {
+        const struct table *t = &tables[i];
+        use(t);
+        for (int n = 0; n < (small_run() ? 3 : 30); n++) {
+            uint8_t plan[5];
+            size_t len = random_below(6);
+            for (size_t k = 0; k < len; k++)
+                plan[k] = (uint8_t)random_below(t->jobs);
+            int32_t norm = gindrazoma_plan_norm(image, image_len, plan, len);
+            CHECK(norm >= (int32_t)len);
+            run_of(t, plan, len, norm);
+        }
+    }
+}
+
+/* Plans with one shortest run only. */
+static void only_runs(void)
+{
+    struct table t = table_new(4);
+    add_rule(&t, 3, 'd', 4, 1, 2, 0, 1);
+    rule2(&t, 2, 'x', 2, 2);
+    rule2(&t, 2, 'c', 0, 1);
+    rule0(&t, 1, 'b');
+    rule0(&t, 0, 'a');
+    use(&t);
+    const struct { uint8_t plan[2]; size_t len; const char *run; } runs[] = {
+        { { 0, 0 }, 1, "a" }, { { 2, 0 }, 1, "cab" }, { { 3, 0 }, 1, "dbcabab" }, { { 2, 1 }, 2, "cabb" }, { { 0, 3 }, 2, "adbcabab" },
+    };
+    for (size_t i = 0; i < sizeof runs / sizeof runs[0]; i++) {
+        uint8_t out[16];
+        size_t moves = strlen(runs[i].run);
+        CHECK_EQ(gindrazoma_shortest_run(image, image_len, runs[i].plan, runs[i].len, out, sizeof out), (int32_t)moves);
+        CHECK(memcmp(out, runs[i].run, moves) == 0);
+    }
+}
+
+static void long_runs(void)
+{
+    struct table t = table_doubling(9);
+    t.jobs = 10;
+    rule1(&t, 9, 'b', 8);
+    use(&t);
+    uint8_t *plan = repeated(9, 8), *ones = repeated(0, 4096);
+    run_of(NULL, plan, 8, 4096);
+    run_of(NULL, ones, 4096, 4096);
+    uint8_t out[4096];
+    CHECK_EQ(gindrazoma_shortest_run(image, image_len, plan, 8, out, sizeof out), 4096);
+    for (int i = 0; i < 4096; i++)
+        CHECK_EQ(out[i], i % 512 == 0 ? 'b' : 'a');
+    CHECK_EQ(gindrazoma_shortest_run(image, image_len, ones, 4096, out, sizeof out), 4096);
+    free(plan);
+    free(ones);
+}
+
+static void null_with_length_0(void)
+{
+    struct table t = table_t();
+    uint8_t plan[1] = { 0 }, out[4];
+    use(&t);
+    CHECK_EQ(gindrazoma_plan_norm(NULL, 0, plan, 1), -2);
+    CHECK_EQ(gindrazoma_plan_norm(image, image_len, NULL, 0), 0);
+    CHECK_EQ(gindrazoma_shortest_run(NULL, 0, NULL, 0, NULL, 0), -2);
+    CHECK_EQ(gindrazoma_shortest_run(image, image_len, NULL, 0, NULL, 0), 0);
+    CHECK_EQ(gindrazoma_shortest_run(image, image_len, plan, 1, NULL, 0), -10);
+    CHECK_EQ(gindrazoma_nth_move(NULL, 0, NULL, 0, 0, NULL, 0), -2);
+    CHECK_EQ(gindrazoma_nth_move(image, image_len, NULL, 0, 0, out, 4), 0);
+    CHECK_EQ(gindrazoma_nth_move(image, image_len, NULL, 0, 0, NULL, 0), 0);
+    CHECK_EQ(gindrazoma_nth_move(image, image_len, plan, 1, 1, NULL, 0), 0);
+    CHECK_EQ(gindrazoma_nth_move(image, image_len, plan, 1, 0, NULL, 0), -10);
+}
+
+static void refused_images(void)
+{
+    int rounds = small_run() ? 100 : 5000;
+    for (int n = 0; n < rounds; n++) {
+        struct table t = table_full(24 + (int)random_below(229));
+        use(&t);
+        size_t block = random_below((uint32_t)(image_len / 512));
+        image[512 * block + random_below(512)] = (uint8_t)random_below(70);
+        if (random_below(4) != 0)
+            seal(image + 512 * block);
+        int refusal = refusal_of_image(image, image_len);
+        uint8_t plan[2] = { 24, 0 }, out[8] = { 9, 9, 9, 9, 9, 9, 9, 9 };
+        int32_t want = refusal != 0 ? -refusal : -8; /* 8 comes after them all */
+        CHECK_EQ(norm_of(plan, 2), want);
+        CHECK_EQ(gindrazoma_shortest_run(image, image_len, plan, 2, out, 8), want);
+        CHECK_EQ(gindrazoma_nth_move(image, image_len, plan, 2, 0, out, 8), want);
+        for (int i = 0; i < 8; i++)
+            CHECK_EQ(out[i], 9);
+    }
+}
+
+static const struct check_case cases[] = {
+    { "norms of table T", norms_of_table_t },
+    { "norms 511, 512, 513 and 1,023", norms_511_512_513 },
+    { "sums that would wrap", sums_that_wrap },
+    { "plans of norm 4,096 and more", plans_of_4096 },
+    { "no such job, anywhere", no_such_job },
+    { "every index of every first job", moves },
+    { "moves of long plans", moves_of_long_plans },
+    { "shortest runs, replayed", shortest_runs },
+    { "plans with one shortest run", only_runs },
+    { "runs of 4,096 moves", long_runs },
+    { "NULL with length 0", null_with_length_0 },
+    { "refused images", refused_images },
+};
+
+int main(void)
+{
+    return run_cases(cases, sizeof cases / sizeof cases[0]);
+}

@@ -1,0 +1,210 @@
+/* Tables, their images and their refusals, written from the documents and not from the library. */
+#include "check.h"
+
+#include <string.h>
+
+struct table table_new(uint32_t jobs)
+{
+    struct table t;
+    memset(&t, 0, sizeof t);
+    t.jobs = jobs;
+    return t;
+}
+
+void add_rule(struct table *t, int job, int move, int after, int a, int b, int c, int d)
+{
+    const int place[8] = { job, move, after, a, b, c, d, 0 };
+    for (int i = 0; i < 8; i++)
+        t->bytes[8 * t->rules + (size_t)i] = (uint8_t)place[i];
+    t->rules++;
+}
+
+void rule0(struct table *t, int job, int move)
+{
+    add_rule(t, job, move, 0, 0, 0, 0, 0);
+}
+
+void rule1(struct table *t, int job, int move, int a)
+{
+    add_rule(t, job, move, 1, a, 0, 0, 0);
+}
+
+void rule2(struct table *t, int job, int move, int a, int b)
+{
+    add_rule(t, job, move, 2, a, b, 0, 0);
+}
+
+size_t rule_bytes(const struct table *t)
+{
+    return 8 * t->rules;
+}
+
+void seal(uint8_t *block)
+{
+    uint32_t sum = 0;
+    for (int i = 0; i < 510; i++)
+        sum += block[i];
+    sum %= 65521;
+    block[510] = (uint8_t)(sum & 255);
+    block[511] = (uint8_t)(sum >> 8);
+}
+
+size_t image_of(const struct table *t, uint8_t *image)
+{
+    size_t blocks = (t->rules + 62) / 63;
+    for (size_t k = 0; k < blocks; k++) {
+        uint8_t *block = image + 512 * k;
+        size_t here = t->rules - 63 * k < 63 ? t->rules - 63 * k : 63;
+        memset(block, 0, 512);
+        block[0] = (uint8_t)t->jobs;
+        block[1] = (uint8_t)here;
+        memcpy(block + 2, t->bytes + 504 * k, 8 * here);
+        block[506] = (uint8_t)k;
+        block[508] = (uint8_t)blocks;
+        seal(block);
+    }
+    return 512 * blocks;
+}
+
+struct table table_t(void)
+{
+    struct table t = table_new(4);
+    rule0(&t, 0, 'a');
+    rule1(&t, 1, 'a', 0);
+    rule1(&t, 2, 'a', 1);
+    rule1(&t, 3, 'b', 0);
+    return t;
+}
+
+struct table table_s(void)
+{
+    struct table t = table_new(5);
+    rule1(&t, 0, 'a', 1);
+    rule0(&t, 1, 'b');
+    rule0(&t, 1, 'c');
+    rule1(&t, 2, 'a', 3);
+    rule1(&t, 2, 'a', 4);
+    rule0(&t, 3, 'b');
+    rule0(&t, 4, 'c');
+    return t;
+}
+
+struct table table_xyz(void)
+{
+    struct table t = table_new(3);
+    rule1(&t, 0, 'a', 1);
+    rule2(&t, 1, 'a', 1, 2);
+    rule0(&t, 1, 'b');
+    rule0(&t, 2, 'b');
+    return t;
+}
+
+struct table table_doubling(int n)
+{
+    struct table t = table_new((uint32_t)n);
+    rule0(&t, 0, 'a');
+    for (int k = 1; k < n; k++)
+        rule2(&t, k, 'a', k - 1, k - 1);
+    return t;
+}
+
+struct table table_full(int rules)
+{
+    struct table t = table_new(24);
+    rule0(&t, 0, 'a');
+    for (int k = 1; k < 24; k++)
+        rule1(&t, k, 'a', k - 1);
+    for (int i = 24; i < rules; i++)
+        add_rule(&t, i % 24, i % 256, i % 5, i % 5 > 0 ? i % 7 : 0, i % 5 > 1 ? i % 11 : 0, i % 5 > 2 ? i % 13 : 0, i % 5 > 3 ? i % 24 : 0);
+    return t;
+}
+
+static int bad_place(uint32_t jobs, const uint8_t *p)
+{
+    if (p[0] >= jobs || p[2] > 4)
+        return 1;
+    for (int i = 0; i < 5; i++)
+        if (i < p[2] ? p[3 + i] >= jobs : p[3 + i] != 0)
+            return 1;
+    return 0;
+}
+
+/* 6 and 7: norms by taking, again and again, any job whose norm a rule lowers. */
+static int refusal_of_norms(uint32_t jobs, const uint8_t *rules, size_t count)
+{
+    const uint64_t none = UINT64_MAX;
+    uint64_t norm[24];
+    int high = 0;
+    for (uint32_t j = 0; j < 24; j++)
+        norm[j] = none;
+    for (int again = 1; again;) {
+        again = 0;
+        for (size_t r = 0; r < count; r++) {
+            const uint8_t *p = rules + 8 * r;
+            uint64_t n = 1;
+            for (int i = 0; i < p[2] && n != none; i++)
+                n = norm[p[3 + i]] == none ? none : n + norm[p[3 + i]];
+            if (n < norm[p[0]]) {
+                norm[p[0]] = n;
+                again = 1;
+            }
+        }
+    }
+    for (uint32_t j = 0; j < jobs; j++) {
+        if (norm[j] == none)
+            return 6;
+        high |= norm[j] > 512;
+    }
+    return high ? 7 : 0;
+}
+
+int refusal_of_list(uint32_t jobs, const uint8_t *rules, size_t len)
+{
+    if (len % 8 != 0 || len < 8 || len > 2016)
+        return 2;
+    if (jobs < 1 || jobs > 24)
+        return 4;
+    for (size_t i = 0; i < len; i += 8)
+        if (bad_place(jobs, rules + i))
+            return 5;
+    return refusal_of_norms(jobs, rules, len / 8);
+}
+
+static int bad_header(const uint8_t *image, size_t k, size_t blocks)
+{
+    const uint8_t *b = image + 512 * k;
+    int last = k + 1 == blocks;
+    return b[0] < 1 || b[0] > 24 || b[0] != image[0] || b[1] > 63 || (last ? b[1] < 1 : b[1] != 63)
+        || b[506] + 256u * b[507] != k || b[508] + 256u * b[509] != blocks;
+}
+
+int refusal_of_image(const uint8_t *image, size_t len)
+{
+    size_t blocks = len / 512;
+    uint8_t rules[2016];
+    size_t count = 0;
+    if (len != 512 && len != 1024 && len != 1536 && len != 2048)
+        return 2;
+    for (size_t k = 0; k < blocks; k++) {
+        uint8_t block[512];
+        memcpy(block, image + 512 * k, 512);
+        seal(block);
+        if (memcmp(block, image + 512 * k, 512) != 0)
+            return 3;
+    }
+    for (size_t k = 0; k < blocks; k++)
+        if (bad_header(image, k, blocks))
+            return 4;
+    for (size_t k = 0; k < blocks; k++) {
+        const uint8_t *b = image + 512 * k;
+        for (size_t i = 0; i < 63; i++) {
+            const uint8_t *p = b + 2 + 8 * i;
+            static const uint8_t zeros[8];
+            if (i < b[1] ? bad_place(image[0], p) : memcmp(p, zeros, 8) != 0)
+                return 5;
+            if (i < b[1])
+                memcpy(rules + 8 * count++, p, 8);
+        }
+    }
+    return refusal_of_norms(image[0], rules, count);
+}

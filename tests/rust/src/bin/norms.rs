@@ -1,0 +1,179 @@
+//! Norms of plans, moves by index, shortest runs.
+use gindrazoma::raw::{nth_move, plan_norm, shortest_run};
+use outside::area::Area;
+use outside::damage::damaged;
+use outside::harness::{Outcome, Suite};
+use outside::refusals::of_plans;
+use outside::rng::Rng;
+use outside::shapes::{Made, SHAPES};
+use outside::table::{norm, Plan, Table};
+use outside::{ensure, ensure_eq};
+use std::collections::HashSet;
+use std::process::ExitCode;
+
+fn main() -> ExitCode {
+    let mut suite = Suite::new();
+    suite.fixed("plans to try", plans_to_try);
+    suite.random("norms", 6000, norms);
+    suite.random("every move of a plan", 1500, every_move);
+    suite.random("shortest runs", 3000, shortest_runs);
+    suite.random("long plans", 300, long_plans);
+    suite.random("refused calls", 8000, refused_calls);
+    suite.finish()
+}
+
+/// Job 0: a; each job k from 1: a, then job k-1 twice.
+fn doubling(jobs: usize) -> Table {
+    let mut table = Table::new(jobs, &[(0, 97, &[])]);
+    for k in 1..jobs as u8 {
+        table.rules.push(outside::table::rule(k, 97, &[k - 1, k - 1]));
+    }
+    table
+}
+
+fn plans_to_try() -> Outcome {
+    let t = Table::new(4, &[(0, 97, &[]), (1, 97, &[0]), (2, 97, &[1]), (3, 98, &[0])]).image();
+    let norms: Vec<i32> = (0..4).map(|j| plan_norm(&t, &[j])).collect();
+    ensure_eq!(norms, [1, 2, 3, 2], "norms of table T");
+    let s = Table::new(5, &[(0, 97, &[1]), (1, 98, &[]), (1, 99, &[]), (2, 97, &[3]), (2, 97, &[4]), (3, 98, &[]), (4, 99, &[])]);
+    let norms: Vec<i32> = (0..5).map(|j| plan_norm(&s.image(), &[j])).collect();
+    ensure_eq!(norms, [2, 1, 2, 1, 1], "norms of S1, X, S2, B, C");
+    let xyz = Table::new(3, &[(0, 97, &[1]), (1, 97, &[1, 2]), (1, 98, &[]), (2, 98, &[])]);
+    let norms: Vec<i32> = (0..3).map(|j| plan_norm(&xyz.image(), &[j])).collect();
+    ensure_eq!(norms, [2, 1, 1], "norms of X, Y, Z");
+    let one = Table::new(1, &[(0, 97, &[0]), (0, 97, &[])]);
+    ensure_eq!(plan_norm(&one.image(), &[0]), 1, "a rule to itself and one to nothing");
+
+    let mut chain = doubling(9);
+    ensure_eq!(plan_norm(&chain.image(), &[8]), 511, "job 8 of the doubling table");
+    ensure_eq!(plan_norm(&doubling(10).image(), &[8]), -7, "job 9 of the doubling table");
+    chain.jobs = 10;
+    chain.rules.push(outside::table::rule(9, 97, &[8]));
+    let image = chain.image();
+    ensure_eq!(plan_norm(&image, &[9]), 512, "a, then job 8");
+    ensure_eq!(plan_norm(&image, &[9; 8]), 4096, "eight jobs of norm 512");
+    ensure_eq!(plan_norm(&image, &[9, 9, 9, 9, 9, 9, 9, 9, 0]), -9, "a ninth job");
+    Ok(())
+}
+
+fn norms(rng: &mut Rng) -> Outcome {
+    let made = Made::new(*rng.pick(&SHAPES), rng);
+    let image = made.table.image();
+    for _ in 0..4 {
+        let plan = made.plan(rng, 4096);
+        ensure_eq!(plan_norm(&image, &plan), made.norm(&plan) as i32, "norm of {plan:?}");
+    }
+    for j in 0..made.table.jobs as u8 {
+        ensure_eq!(plan_norm(&image, &[j]), made.norms[j as usize] as i32, "norm of job {j}");
+    }
+    Ok(())
+}
+
+fn moves_at(rng: &mut Rng, image: &[u8], plan: &[u8], index: u32, wanted: Option<&(u8, Plan)>) -> Outcome {
+    let wanted: Plan = wanted.map_or(Vec::new(), |(a, rest)| [&[*a], &rest[..]].concat());
+    let need = wanted.len();
+    for len in [need, need + rng.below(50), need.saturating_sub(1), 0] {
+        let mut out = Area::new(rng, len);
+        let expected = if len < need { -10 } else { need as i32 };
+        ensure_eq!(nth_move(image, plan, index, out.bytes()), expected, "move {index} of {plan:?} into {len} bytes");
+        let used = expected.max(0) as usize;
+        ensure_eq!(out.first(used), &wanted[..used], "move {index} of {plan:?}");
+        ensure!(out.kept_beyond(used), "bytes beyond the output have changed");
+    }
+    Ok(())
+}
+
+fn every_move(rng: &mut Rng) -> Outcome {
+    let made = Made::new(*rng.pick(&SHAPES), rng);
+    let image = made.table.image();
+    let tail = made.plan(rng, 1000);
+    for j in 0..made.table.jobs as u8 {
+        let plan = [&[j], &tail[..]].concat();
+        let moves = made.table.moves(&plan);
+        for (i, wanted) in moves.iter().enumerate() {
+            moves_at(rng, &image, &plan, i as u32, Some(wanted))?;
+        }
+        let count = moves.len() as u32;
+        for index in [count, count + 1, count + 256, count + 65536, u32::MAX, count.max(rng.number() as u32)] {
+            moves_at(rng, &image, &plan, index, None)?;
+        }
+    }
+    moves_at(rng, &image, &[], 0, None)
+}
+
+/// Whether the moves can lead from the plan to the empty plan. Each must lower the norm, since they are as many.
+fn leads_to_end(table: &Table, norms: &[u64], plan: &[u8], run: &[u8]) -> bool {
+    let mut plans: HashSet<Plan> = HashSet::from([plan.to_vec()]);
+    for (i, &a) in run.iter().enumerate() {
+        let left = (run.len() - i - 1) as u64;
+        let next = plans.iter().flat_map(|p| table.moves(p)).filter(|(b, q)| *b == a && norm(norms, q) == left);
+        plans = next.map(|(_, q)| q).collect();
+    }
+    plans.contains(&Vec::new())
+}
+
+fn shortest_runs(rng: &mut Rng) -> Outcome {
+    let made = Made::new(*rng.pick(&SHAPES), rng);
+    let image = made.table.image();
+    let plan = made.plan(rng, 60);
+    run_of(rng, &made, &image, &plan)
+}
+
+fn run_of(rng: &mut Rng, made: &Made, image: &[u8], plan: &[u8]) -> Outcome {
+    let need = made.norm(plan) as usize;
+    let mut first = None;
+    for len in [need, need + rng.below(50), need.saturating_sub(1), 0] {
+        let mut out = Area::new(rng, len);
+        let expected = if len < need { -10 } else { need as i32 };
+        ensure_eq!(shortest_run(image, plan, out.bytes()), expected, "run of {plan:?} into {len} bytes");
+        let used = expected.max(0) as usize;
+        let run = out.first(used).to_vec();
+        ensure!(expected < 0 || leads_to_end(&made.table, &made.norms, plan, &run), "{run:?} is no run of {plan:?}");
+        ensure!(out.kept_beyond(used), "bytes beyond the output have changed");
+        if expected >= 0 {
+            ensure_eq!(first.get_or_insert(run.clone()), &run, "the run given a second time");
+        }
+    }
+    Ok(())
+}
+
+fn long_plans(rng: &mut Rng) -> Outcome {
+    let made = Made::new(*rng.pick(&SHAPES), rng);
+    let image = made.table.image();
+    let plan = made.plan_of_norm(rng, 4096);
+    ensure_eq!(plan_norm(&image, &plan), 4096, "a plan of norm 4,096");
+    let mut out = vec![0; 4100];
+    ensure_eq!(shortest_run(&image, &plan, &mut out), 4096, "its run");
+    ensure_eq!(shortest_run(&image, &plan, &mut out[..4095]), -10, "its run into 4,095 bytes");
+    let longer = [&plan[..], &[rng.below(made.table.jobs) as u8]].concat();
+    ensure_eq!(plan_norm(&image, &longer), -9, "one job more");
+    ensure_eq!(nth_move(&image, &longer, 0, &mut out), -9, "a move of it");
+    let wrong = [&longer[..], &[made.table.jobs as u8]].concat();
+    ensure_eq!(plan_norm(&image, &wrong), -8, "a job that is none behind it");
+    let (action, rest) = made.table.moves(&plan).swap_remove(0);
+    moves_at(rng, &image, &plan, 0, Some(&(action, rest)))
+}
+
+fn refused_calls(rng: &mut Rng) -> Outcome {
+    let made = Made::new(*rng.pick(&SHAPES), rng);
+    let mut image = made.table.image();
+    let mut plan = if rng.once_in(3) { made.plan_of_norm(rng, 4096) } else { made.plan(rng, 4096) };
+    if rng.once_in(2) {
+        image = damaged(rng, &image);
+    }
+    for _ in 0..rng.below(3) {
+        let job = if rng.once_in(3) { rng.byte() } else { rng.below(made.table.jobs) as u8 };
+        plan.insert(rng.below(plan.len() + 1), job);
+    }
+    let refusal = -i32::from(of_plans(&image, &[&plan]));
+    if refusal == 0 {
+        return Ok(());
+    }
+    let len = rng.below(40);
+    let mut out = Area::new(rng, len);
+    ensure_eq!(plan_norm(&image, &plan), refusal, "norm");
+    ensure_eq!(shortest_run(&image, &plan, out.bytes()), refusal, "shortest run");
+    ensure_eq!(nth_move(&image, &plan, rng.below(3) as u32, out.bytes()), refusal, "n-th move");
+    ensure!(out.kept_beyond(0), "a refused call changed its output");
+    Ok(())
+}

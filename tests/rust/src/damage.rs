@@ -1,0 +1,57 @@
+//! Images that are damaged: bytes changed, blocks cut off, added or exchanged, with the checksums set anew or not.
+use crate::rng::Rng;
+use crate::table::seal;
+
+pub fn damaged(rng: &mut Rng, image: &[u8]) -> Vec<u8> {
+    let mut image = image.to_vec();
+    for _ in 0..rng.range(1, 3) {
+        match rng.below(12) {
+            0 => {
+                let len = rng.below(image.len() + 1);
+                image.truncate(len);
+            }
+            1 => {
+                let n = rng.below(600);
+                image.extend(rng.bytes(n));
+            }
+            2 => image.extend_from_within(..image.len().min(512)),
+            3 => image.truncate(image.len().saturating_sub(512)),
+            4 => exchange_blocks(rng, &mut image),
+            _ => change_byte(rng, &mut image),
+        }
+    }
+    if !rng.once_in(4) {
+        image.chunks_exact_mut(512).for_each(seal);
+    }
+    image
+}
+
+fn exchange_blocks(rng: &mut Rng, image: &mut [u8]) {
+    let blocks = image.len() / 512;
+    if blocks < 2 {
+        return;
+    }
+    let k = rng.below(blocks - 1);
+    let (left, right) = image.split_at_mut(512 * (k + 1));
+    left[512 * k..].swap_with_slice(&mut right[..512]);
+}
+
+/// One byte, often one of the header's or of a place in use, and often a number that is nearly right.
+fn change_byte(rng: &mut Rng, image: &mut [u8]) {
+    let blocks = image.len() / 512;
+    if blocks == 0 {
+        return;
+    }
+    let block = &mut image[512 * rng.below(blocks)..][..512];
+    let at = match rng.below(4) {
+        0 => *rng.pick(&[0, 1, 506, 507, 508, 509, 510, 511]),
+        1 => rng.below(512),
+        _ => 2 + rng.below(8 * usize::from(block[1]).clamp(1, 63)),
+    };
+    block[at] = match rng.below(4) {
+        0 => block[at].wrapping_add(1),
+        1 => block[at].wrapping_sub(1),
+        2 => rng.below(26) as u8,
+        _ => rng.byte(),
+    };
+}

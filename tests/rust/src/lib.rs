@@ -1,0 +1,10 @@
+//! What the tests over the archive are made of: tables by the definitions, a second comparer, random shapes, guarded areas.
+pub mod area;
+pub mod damage;
+pub mod harness;
+pub mod play;
+pub mod refusals;
+pub mod rng;
+pub mod second;
+pub mod shapes;
+pub mod table;

@@ -1,0 +1,99 @@
+//! The refusals 1 to 10 as the documents state them, for any bytes. 0 is none.
+use crate::table::{norm, rule, Table};
+
+fn number_at(block: &[u8], at: usize) -> usize {
+    usize::from(u16::from_le_bytes([block[at], block[at + 1]]))
+}
+
+/// Each check is made over all blocks before the next.
+pub fn of_layout(image: &[u8]) -> u8 {
+    if ![512, 1024, 1536, 2048].contains(&image.len()) {
+        return 2;
+    }
+    let blocks: Vec<&[u8]> = image.chunks(512).collect();
+    let sum = |b: &[u8]| b[..510].iter().fold(0, |s, &x| (s + usize::from(x)) % 65521);
+    if !blocks.iter().all(|b| number_at(b, 510) == sum(b)) {
+        return 3;
+    }
+    for (k, b) in blocks.iter().enumerate() {
+        let last = k == blocks.len() - 1;
+        let jobs = (1..=24).contains(&b[0]) && b[0] == blocks[0][0];
+        let rules = if last { (1..=63).contains(&b[1]) } else { b[1] == 63 };
+        if !(jobs && rules && number_at(b, 506) == k && number_at(b, 508) == blocks.len()) {
+            return 4;
+        }
+    }
+    for b in &blocks {
+        let (used, unused) = b[2..506].split_at(8 * usize::from(b[1]));
+        if !used.chunks(8).all(|p| good_place(p, b[0].into())) || unused.iter().any(|&x| x != 0) {
+            return 5;
+        }
+    }
+    0
+}
+
+fn good_place(place: &[u8], jobs: u32) -> bool {
+    let named = usize::from(place[2]);
+    u32::from(place[0]) < jobs
+        && named <= 4
+        && (0..5).all(|i| if i < named { u32::from(place[3 + i]) < jobs } else { place[3 + i] == 0 })
+}
+
+/// The table of places that passed check 5.
+pub fn table_of_places(jobs: usize, places: &[u8]) -> Table {
+    let rules = places.chunks(8).map(|p| rule(p[0], p[1], &p[3..3 + usize::from(p[2])])).collect();
+    Table { jobs, rules }
+}
+
+/// The table of an image that passed checks 2 to 5.
+pub fn table_of_image(image: &[u8]) -> Table {
+    let places: Vec<u8> = image.chunks(512).flat_map(|b| b[2..2 + 8 * usize::from(b[1])].to_vec()).collect();
+    table_of_places(image[0].into(), &places)
+}
+
+pub fn of_table(table: &Table) -> u8 {
+    match table.finite_norms() {
+        None => 6,
+        Some(norms) if norms.iter().any(|&n| n > 512) => 7,
+        Some(_) => 0,
+    }
+}
+
+/// 2 to 7 of an image.
+pub fn of_image(image: &[u8]) -> u8 {
+    match of_layout(image) {
+        0 => of_table(&table_of_image(image)),
+        refusal => refusal,
+    }
+}
+
+/// 2, 4, 5, 6 and 7 of a job count and a rule list.
+pub fn of_list(jobs: u32, rules: &[u8]) -> u8 {
+    if rules.len() % 8 != 0 || !(1..=252).contains(&(rules.len() / 8)) {
+        return 2;
+    }
+    if !(1..=24).contains(&jobs) {
+        return 4;
+    }
+    if !rules.chunks(8).all(|p| good_place(p, jobs)) {
+        return 5;
+    }
+    of_table(&table_of_places(jobs as usize, rules))
+}
+
+/// 2 to 9 of an image and plans over it.
+pub fn of_plans(image: &[u8], plans: &[&[u8]]) -> u8 {
+    let refusal = of_image(image);
+    if refusal != 0 {
+        return refusal;
+    }
+    let table = table_of_image(image);
+    if plans.iter().any(|p| p.iter().any(|&j| usize::from(j) >= table.jobs)) {
+        return 8;
+    }
+    let norms = table.finite_norms().unwrap();
+    if plans.iter().any(|p| norm(&norms, p) > 4096) {
+        return 9;
+    }
+    0
+}
