@@ -1,6 +1,6 @@
 -- The norm of a plan is the length of a shortest run to the empty plan, and is missing exactly if there is none. Assumes nothing.
-use mathlib.Core.Path.{_≡_, refl, sym, ap, _∙_, subst}
-use mathlib.Core.Bool.{true, false, true≢false}
+use mathlib.Core.Path.{_≡_, refl, sym, ap, subst}
+use mathlib.Core.Bool.{true}
 use mathlib.Core.List.{List, [], _∷_, _++_}
 use mathlib.Core.Logic.{_↔_}
 use Prim.Native.Nat.{ℕ, zero, suc, _+_, _≤_, _<_}
@@ -70,9 +70,6 @@ module _ (t : Table) (closed : (j a : ℕ) (w : List ℕ) → HasRule t j a w �
 
   pub plan-norm : (p : List ℕ) → over t p ≡ true → all-known (norms t) p ≡ true → Fewest t p (norm t p)
   plan-norm p o k = (norm-run t p k, λ run r. run-plan r o .1)
-
-  pub plan-without : (p : List ℕ) → over t p ≡ true → all-known (norms t) p ≡ false → Endless t p
-  plan-without p o k run r = true≢false (sym (run-plan r o .0) ∙ k)
 
   pub job-norm : (j : ℕ) → j < t .jobs → 0 < getD (norms t) j 0 → Fewest t (j ∷ []) (getD (norms t) j 0)
   unfolding norm all-known
