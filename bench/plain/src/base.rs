@@ -110,13 +110,14 @@ impl<'a> Index<'a> {
         &self.grouped[self.starts[job as usize] as usize..self.starts[job as usize + 1] as usize]
     }
 
-    fn move_set(&self, job: u8) -> [u64; 4] {
-        let mut set = [0; 4];
+    /// A mark of the moves that a job makes and of how each changes the norm.
+    fn steps(&self, job: u8) -> u64 {
+        let mut mark = 0;
         for &r in self.rules_of(job) {
-            let a = self.table.action(r as usize);
-            set[a as usize / 64] |= 1 << (a % 64);
+            let change = self.row_norms[r as usize] + 512 - self.norms[job as usize];
+            mark |= 1 << ((u16::from(self.table.action(r as usize)) + 11 * change) % 64);
         }
-        set
+        mark
     }
 
     /// Writes the candidate of a pair at the end of an area: the plan that y reaches by norm-of-x steps, each lowering
@@ -197,28 +198,28 @@ impl<'a> Engine<'a> {
         self.prime_rows();
     }
 
-    /// Each job with each job that precedes it and has the same set of moves.
+    /// Each job with each job that precedes it and has the same mark.
     fn first_base(&mut self) {
         let jobs = self.index.table.jobs;
-        let mut sets = [[0; 4]; JOBS];
-        for (j, set) in sets[..jobs].iter_mut().enumerate() {
-            *set = self.index.move_set(j as u8);
+        let mut marks = [0; JOBS];
+        for (j, mark) in marks[..jobs].iter_mut().enumerate() {
+            *mark = self.index.steps(j as u8);
         }
         for i in 1..jobs {
             let y = self.index.order[i] as usize;
             for k in 0..i {
                 let x = self.index.order[k] as usize;
-                if sets[x] == sets[y] {
+                if marks[x] == marks[y] {
                     self.held[y] |= 1 << k;
                 }
             }
         }
     }
 
-    /// Drops each pair that does not fit the base as it was at the start; whether one was dropped.
+    /// Drops each pair that does not fit, at once; whether one was dropped.
     fn round<M: Meter>(&mut self, meter: &mut M) -> bool {
         meter.round();
-        let mut next = self.held;
+        let mut dropped = false;
         for i in 1..self.index.table.jobs {
             let y = self.index.order[i];
             let mut bits = self.held[y as usize];
@@ -226,12 +227,11 @@ impl<'a> Engine<'a> {
                 let k = bits.trailing_zeros();
                 bits &= bits - 1;
                 if !self.fits(y, self.index.order[k as usize], meter) {
-                    next[y as usize] &= !(1 << k);
+                    self.held[y as usize] &= !(1 << k);
+                    dropped = true;
                 }
             }
         }
-        let dropped = next != self.held;
-        self.held = next;
         dropped
     }
 

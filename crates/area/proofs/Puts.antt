@@ -4,32 +4,54 @@ use mathlib.Core.List.{List, _++_, append-assoc}
 use Prim.Native.Nat.{ℕ, _+_, _-_, _≤_}
 use native.Mathlib.Omega.{arith}
 use lib.ListN.{length, take, drop, length-append, length-drop}
-use lib.Seq.{length-take-le, take-at, drop-at, drop-drop}
+use lib.Seq.{length-take-le, take-at, drop-at, drop-drop, take-append-le, take-append-add, take-take, slice}
 use Rattle.area.specs.Areas.{put}
+use Rattle.area.proofs.Parts.{part}
 
 module _ (i : ℕ) (new xs : List ℕ) (fits : i + length new ≤ length xs) where
   front-length : length (take i xs ++ new) ≡ i + length new
   front-length = length-append (take i xs) new ∙ ap (λ n. n + length new) (length-take-le i xs (omega arith))
 
-  pub put-front : take (i + length new) (put i new xs) ≡ take i xs ++ new
+  -- the bytes up to their end, and those behind
+  parts : put i new xs ≡ take i xs ++ new ++ drop (i + length new) xs
   unfolding put
-  put-front = take-at (take i xs ++ new) (drop (i + length new) xs) (i + length new) front-length
+  parts = sym (append-assoc (take i xs) new (drop (i + length new) xs))
+
+  pub put-up-to : take (i + length new) (put i new xs) ≡ take i xs ++ new
+  put-up-to = ap (take (i + length new)) parts ∙ take-at (take i xs ++ new) (drop (i + length new) xs) (i + length new) front-length
 
   pub put-behind : drop (i + length new) (put i new xs) ≡ drop (i + length new) xs
-  unfolding put
-  put-behind = drop-at (take i xs ++ new) (drop (i + length new) xs) (i + length new) front-length
+  put-behind = ap (drop (i + length new)) parts ∙ drop-at (take i xs ++ new) (drop (i + length new) xs) (i + length new) front-length
 
   pub put-length : length (put i new xs) ≡ length xs
-  unfolding put
   put-length =
       let front = front-length in
       let behind = length-drop (i + length new) xs in
-      length-append (take i xs ++ new) (drop (i + length new) xs) ∙ omega arith
+      ap length parts ∙ length-append (take i xs ++ new) (drop (i + length new) xs) ∙ omega arith
 
   -- the part from i to e, replaced by as many new bytes
   pub put-part : (e : ℕ) → e ≡ i + length new → take i xs ++ (new ++ drop (e - i) (drop i xs)) ≡ put i new xs
   unfolding put
   put-part e h =
       let end : i + (e - i) ≡ i + length new = omega arith in
-      sym (append-assoc (take i xs) new (drop (e - i) (drop i xs)))
-      ∙ ap (λ l. take i xs ++ new ++ l) (drop-drop (e - i) i xs ∙ ap (λ n. drop n xs) end)
+      ap (λ l. take i xs ++ (new ++ l)) (drop-drop (e - i) i xs ∙ ap (λ n. drop n xs) end)
+
+  -- what stands before the bytes, and what stands from them on
+  pub take-put : (k : ℕ) → k ≤ i → take k (put i new xs) ≡ take k xs
+  unfolding put
+  take-put k l =
+      let e : length (take i xs) ≡ i = length-take-le i xs (omega arith) in
+      take-append-le k (take i xs) (new ++ drop (i + length new) xs) (omega arith) ∙ take-take k i xs l
+
+  pub slice-put : (end : ℕ) → i + length new ≤ end → end ≤ length xs →
+      slice i end (put i new xs) ≡ new ++ slice (i + length new) end xs
+  slice-put end a b =
+      let m = i + length new in
+      let n = end - m in
+      let j : length (take i xs ++ new) + n ≡ end = omega (arith, front-length) in
+      let k : m + n ≡ end = omega arith in
+      ap (λ (e : ℕ). drop i (take e (put i new xs))) (sym j)
+      ∙ ap (λ (l : List ℕ). drop i (take (length (take i xs ++ new) + n) l)) parts
+      ∙ ap (drop i) (take-append-add (take i xs ++ new) (drop m xs) n ∙ append-assoc (take i xs) new (take n (drop m xs)))
+      ∙ drop-at (take i xs) (new ++ take n (drop m xs)) i (length-take-le i xs (omega arith))
+      ∙ ap (λ (l : List ℕ). new ++ l) (part m n xs ∙ ap (λ (e : ℕ). slice m e xs) k)

@@ -2,7 +2,7 @@
 ghost use mathlib.Core.Path.{_≡_};
 ghost use Prim.Native.Nat.{_+_, _-_, _≤_, _<_};
 ghost use lib.ListN.{length, replicate};
-ghost use Rattle.area.specs.Areas.{put};
+ghost use Rattle.area.specs.Areas.{put, IsPut};
 
 // A byte as a number.
 pub fn wide(byte: u8) -> usize
@@ -22,13 +22,12 @@ pub fn clear(area: &mut [u8])
     }
 }
 
-// Bytes at a place.
-pub fn put_bytes(bytes: &[u8], at: usize, area: &mut [u8])
+// Puts bytes into an area at a place, and gives the place behind them.
+pub fn put(area: &mut [u8], at: usize, bytes: &[u8]) -> usize
     requires { ⌜ at + length (now bytes) ≤ length (now area) ⌝ }
-    ensures { λ _. ⌜ now (area .exit) ≡ put at (now (bytes .entry)) (now (area .entry)) ⌝ }
+    ensures { λ r. ⌜ IsPut at (now (bytes .entry)) (now (area .entry)) r (now (area .exit)) ⌝ }
 {
-    let end = at + bytes.len();
-    let n = bytes::copy(bytes, &mut area[at..end]);
+    at + bytes::copy(bytes, &mut area[at..])
 }
 
 // Zeros from a place up to another.

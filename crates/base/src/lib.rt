@@ -1,8 +1,9 @@
 // The base: all pairs of ordered jobs at first, then those that fit, in passes that drop a pair as soon as it does not fit.
+use area::put_zeros;
 use fitting::fits;
 use judge::precedes;
 use prepare::chain_rules;
-use prepare::mark_moves;
+use prepare::mark_steps;
 ghost use mathlib.Core.Path.{_≡_};
 ghost use Prim.Native.Nat.{_<_};
 ghost use lib.ListN.{length};
@@ -10,13 +11,13 @@ ghost use Rattle.bpa.specs.Method as method;
 ghost use Rattle.prepare.specs.Prepared.{Normed, RowNorms, Marked};
 ghost use Rattle.candidate.specs.Ready.{Ready};
 ghost use Rattle.matching.specs.Pairs.{Tables};
-ghost use Rattle.matching.specs.Remembered.{Remembered};
+ghost use Rattle.matching.specs.Remembered.{memory-in, Remembered};
 ghost use Rattle.base.specs.Held.{Held, Passed, Final};
 
 // The first base: each job with each job that precedes it and has the same mark.
 fn first_base(jobs: usize, rules: &[u8], norms: &[u16; 24], marks: &[u64; 24]) -> [u8; 576]
     requires { ⌜ Normed jobs (now rules) (now norms) ⌝ }
-    requires { ⌜ Marked jobs (now rules) (now marks) ⌝ }
+    requires { ⌜ Marked jobs (now rules) (now norms) (now marks) ⌝ }
     ensures { λ r. ⌜ Held jobs (now (rules .entry)) (now (norms .entry)) r ⌝ }
 {
     let mut base = [0u8; 576];
@@ -49,14 +50,13 @@ fn pass(
     first: &[u8; 24],
     next: &[u8; 252],
     base: &mut [u8; 576],
-    memory: &mut [u8; 6048],
-    rows: &mut [u8],
+    area: &mut [u8],
 ) -> bool
     requires { ⌜ Tables jobs (now rules) (now norms) (now low) (now sums) (now first) (now next) ⌝ }
     requires { ⌜ Held jobs (now rules) (now norms) (now base) ⌝ }
-    requires { ⌜ Remembered jobs (now rules) (now norms) (now base) (now memory) ⌝ }
-    requires { ⌜ length (now rows) ≡ 12288 ⌝ }
-    ensures { λ out. ⌜ Passed jobs (now (rules .entry)) (now (norms .entry)) (now (base .entry)) (now (base .exit)) (now (memory .exit)) out ⌝ }
+    requires { ⌜ Remembered jobs (now rules) (now norms) (now base) (memory-in (now area)) ⌝ }
+    requires { ⌜ length (now area) ≡ 18336 ⌝ }
+    ensures { λ out. ⌜ Passed jobs (now (rules .entry)) (now (norms .entry)) (now (base .entry)) (now (base .exit)) (memory-in (now (area .exit))) out ⌝ }
 {
     let mut dropped = false;
     let mut k = 0;
@@ -77,8 +77,7 @@ fn pass(
             base,
             i / 24,
             i % 24,
-            memory,
-            rows,
+            area,
         ) {
             continue;
         }
@@ -98,52 +97,40 @@ fn refine(
     first: &[u8; 24],
     next: &[u8; 252],
     base: &mut [u8; 576],
-    memory: &mut [u8; 6048],
-    rows: &mut [u8],
+    area: &mut [u8],
 )
     requires { ⌜ Tables jobs (now rules) (now norms) (now low) (now sums) (now first) (now next) ⌝ }
     requires { ⌜ Held jobs (now rules) (now norms) (now base) ⌝ }
-    requires { ⌜ Remembered jobs (now rules) (now norms) (now base) (now memory) ⌝ }
-    requires { ⌜ length (now rows) ≡ 12288 ⌝ }
+    requires { ⌜ Remembered jobs (now rules) (now norms) (now base) (memory-in (now area)) ⌝ }
+    requires { ⌜ length (now area) ≡ 18336 ⌝ }
     ensures { λ _. ⌜ Final jobs (now (rules .entry)) (now (norms .entry)) (now (base .exit)) ⌝ }
 {
     let mut again = true;
     while again {
-        let dropped = pass(
-            jobs,
-            rules,
-            norms,
-            low,
-            sums,
-            first,
-            next,
-            base,
-            memory,
-            rows,
-        );
+        let dropped = pass(jobs, rules, norms, low, sums, first, next, base, area);
         again = dropped;
     }
 }
 
-// The base that the rounds end with: a pair is held exactly if its two sides are bisimilar.
+// The base that the rounds end with: a pair is held exactly if its two sides are bisimilar. At first no answer has failed.
 pub fn final_base(
     jobs: usize,
     rules: &[u8],
     norms: &[u16; 24],
     low: &[u8; 24],
     sums: &[u16; 252],
-    rows: &mut [u8],
+    area: &mut [u8],
 ) -> [u8; 576]
     requires { ⌜ Ready jobs (now rules) (now norms) (now low) ⌝ }
     requires { ⌜ RowNorms (now rules) (now norms) (now sums) ⌝ }
-    requires { ⌜ length (now rows) ≡ 12288 ⌝ }
+    requires { ⌜ length (now area) ≡ 18336 ⌝ }
     ensures { λ r. ⌜ Final jobs (now (rules .entry)) (now (norms .entry)) r ⌝ }
 {
     let mut next = [0u8; 252];
     let first = chain_rules(jobs, rules, &mut next);
-    let marks = mark_moves(jobs, rules);
+    let marks = mark_steps(jobs, rules, norms, sums);
     let mut base = first_base(jobs, rules, norms, &marks);
-    let mut memory = [0u8; 6048];
+    put_zeros(12288, 18336, area);
     refine(
         jobs,
         rules,
@@ -153,8 +140,7 @@ pub fn final_base(
         &first,
         &next,
         &mut base,
-        &mut memory,
-        rows,
+        area,
     );
     base
 }

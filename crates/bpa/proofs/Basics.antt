@@ -2,6 +2,7 @@
 pub mod Cases
 pub mod EachJob
 pub mod Counting
+pub mod JobsBelow
 pub mod Plans
 pub mod Moves
 pub mod Order

@@ -1,11 +1,13 @@
 -- From good norms to the prime rows, and from these to the answers. Assumes nothing.
-use mathlib.Core.Path.{_≡_, refl, sym, ap, _∙_}
+use mathlib.Core.Path.{_≡_, refl, sym, ap, _∙_, subst}
 use mathlib.Core.Bool.{Bool, true}
 use mathlib.Core.List.{List, _++_}
-use Prim.Native.Nat.{ℕ, _≤_, _<_}
+use Prim.Native.Nat.{ℕ, _-_, _≤_, _<_}
 use native.Mathlib.Omega.{arith}
 use lib.IntN.{ℤ, pos, negsuc}
-use lib.ListN.{length, drop}
+use lib.ListN.{length, take, drop}
+use lib.Seq.{take-at}
+use borrow.Rule.Slice.PartMut.{putMid, postOf}
 use Rattle.bpa.specs.Plans.{all-below, over}
 use Rattle.bpa.specs.Norms.{sum-of, Good}
 use Rattle.bpa.specs.Method.{expand, prime-rows, final-base, same, prime-form}
@@ -15,12 +17,13 @@ use Rattle.norm.specs.NormArrays.{GoodNorms}
 use Rattle.refusal.proofs.Accepted.{array-good}
 use Rattle.prepare.specs.Prepared.{Normed, Lowered}
 use Rattle.candidate.specs.Ready.{Ready}
-use Rattle.rows.specs.Region.{row, Within}
+use Rattle.rows.specs.Region.{row, Within, Readable}
 use Rattle.rows.specs.Replacing.{NewRows}
 use Rattle.judge.specs.Judging.{byte-base}
 use Rattle.base.specs.Held.{Final}
-use Rattle.form.specs.Written.{Tells, Readable}
-use Rattle.form.proofs.Expanding.{form-long, within-readable}
+use Rattle.rows.proofs.WrittenPlans.{within-readable}
+use Rattle.form.specs.Written.{Tells}
+use Rattle.form.proofs.Lengths.{form-long}
 use Rattle.prime_table.proofs.Forms.{exact-agrees, form-fits, form-is, answer-is}
 use Rattle.answer.specs.Answer.{Writes}
 use Rattle.answer.proofs.Writing.{writes-short, writes-bytes}
@@ -43,7 +46,7 @@ module _ (n : ℕ) (rs ns : List ℕ) (g : GoodNorms n rs ns) where
   }
 
   -- THE PRIME ROWS by the final base
-  pub prime-rows-are : (base lens region : List ℕ) → Final n rs ns base →
+  prime-rows-are : (base lens region : List ℕ) → Final n rs ns base →
       NewRows n lens region (prime-rows (table-of n rs) ns (byte-base base)) → PrimeRows (table-of n rs) ns lens region
   unfolding table-of
   prime-rows-are base lens region f r =
@@ -56,6 +59,14 @@ module _ (n : ℕ) (rs ns : List ℕ) (g : GoodNorms n rs ns) where
         short = form-fits t ns good b lens region r;
         told = answer-is t ns good b lens region r (g .good) x;
       }
+
+  -- the same, back in the area
+  pub prime-rows-in : (base lens area region : List ℕ) → Final n rs ns base →
+      NewRows n lens region (prime-rows (table-of n rs) ns (byte-base base)) →
+      PrimeRows (table-of n rs) ns lens (take 12288 (putMid 0 (12288 - 0) area region))
+  prime-rows-in base lens area region f r =
+      subst (PrimeRows (table-of n rs) ns lens) (sym (take-at region (postOf 0 (12288 - 0) area) 12288 (r .within .size)))
+      (prime-rows-are base lens region f r)
 
 -- WHAT THE PRIME ROWS ANSWER
 module _ (n : ℕ) (rs ns lens region : List ℕ) (r : PrimeRows (table-of n rs) ns lens region) where

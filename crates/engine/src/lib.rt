@@ -1,4 +1,6 @@
 // From a list of rules and the norms of its jobs to the prime rows, and the answers that they give about plans.
+// The area that is worked in has two parts. Bytes 0 to 12287 are the rows, 24 of 512 bytes. Bytes 12288 to 18335 are the memory of
+// failed answers, 252 bytes for each of 24 jobs, which the base is worked out with.
 use base::final_base;
 use form::form_length;
 use form::same_forms;
@@ -10,7 +12,7 @@ use prime_table::prime_table;
 ghost use mathlib.Core.Path.{_≡_};
 ghost use mathlib.Core.Bool.{true};
 ghost use Prim.Native.Nat.{_≤_};
-ghost use lib.ListN.{length};
+ghost use lib.ListN.{length, take};
 ghost use Rattle.bpa.specs.Plans.{all-below};
 ghost use Rattle.bpa.specs.Norms.{sum-of};
 ghost use Rattle.bpa.specs.Method as method;
@@ -19,44 +21,53 @@ ghost use Rattle.norm.specs.NormArrays.{GoodNorms};
 ghost use Rattle.answer.specs.Answer.{Writes};
 ghost use Rattle.engine.specs.Engine.{PrimeRows};
 
-// The prime rows of all jobs, 512 bytes for each, and their lengths.
+// The prime rows of all jobs and their lengths.
 pub fn prime_rows(
     jobs: usize,
     rules: &[u8],
     norms: &[u16; 24],
     lens: &mut [u16; 24],
-    rows: &mut [u8],
+    area: &mut [u8],
 )
     requires { ⌜ GoodNorms jobs (now rules) (now norms) ⌝ }
     requires { ⌜ length (now lens) ≡ 24 ⌝ }
-    requires { ⌜ length (now rows) ≡ 12288 ⌝ }
-    ensures { λ _. ⌜ PrimeRows (table-of jobs (now (rules .entry))) (now (norms .entry)) (now (lens .exit)) (now (rows .exit)) ⌝ }
+    requires { ⌜ length (now area) ≡ 18336 ⌝ }
+    ensures { λ _. ⌜ PrimeRows (table-of jobs (now (rules .entry))) (now (norms .entry)) (now (lens .exit)) (take 12288 (now (area .exit))) ⌝ }
 {
     let sums = row_norms(rules, norms);
     let low = lowering_rules(jobs, rules, norms, &sums);
-    let base = final_base(jobs, rules, norms, &low, &sums, rows);
+    let base = final_base(jobs, rules, norms, &low, &sums, area);
     let ord = order(jobs, norms);
-    prime_table(jobs, rules, norms, &low, &base, &ord, lens, rows);
+    prime_table(
+        jobs,
+        rules,
+        norms,
+        &low,
+        &base,
+        &ord,
+        lens,
+        &mut area[0..12288],
+    );
 }
 
-// Whether two plans are the same. The prime rows are worked out in `rows`.
+// Whether two plans are the same. The prime rows are worked out in the area.
 pub fn same(
     jobs: usize,
     rules: &[u8],
     norms: &[u16; 24],
     left: &[u8],
     right: &[u8],
-    rows: &mut [u8],
+    area: &mut [u8],
 ) -> bool
     requires { ⌜ GoodNorms jobs (now rules) (now norms) ⌝ }
     requires { ⌜ all-below jobs (now left) ≡ true ⌝ }
     requires { ⌜ all-below jobs (now right) ≡ true ⌝ }
-    requires { ⌜ length (now rows) ≡ 12288 ⌝ }
+    requires { ⌜ length (now area) ≡ 18336 ⌝ }
     ensures { λ r. ⌜ r ≡ method.same (table-of jobs (now (rules .entry))) (now (left .entry)) (now (right .entry)) ⌝ }
 {
     let mut lens = [0u16; 24];
-    prime_rows(jobs, rules, norms, &mut lens, rows);
-    same_forms(rows, &lens, jobs, left, right)
+    prime_rows(jobs, rules, norms, &mut lens, area);
+    same_forms(&area[0..12288], &lens, jobs, left, right)
 }
 
 // The prime form of a plan, one byte a job, or refusal 10 with the output left as it was.
@@ -66,20 +77,20 @@ pub fn form(
     norms: &[u16; 24],
     plan: &[u8],
     out: &mut [u8],
-    rows: &mut [u8],
+    area: &mut [u8],
 ) -> i32
     requires { ⌜ GoodNorms jobs (now rules) (now norms) ⌝ }
     requires { ⌜ all-below jobs (now plan) ≡ true ⌝ }
     requires { ⌜ sum-of (now norms) (now plan) ≤ 4096 ⌝ }
-    requires { ⌜ length (now rows) ≡ 12288 ⌝ }
+    requires { ⌜ length (now area) ≡ 18336 ⌝ }
     ensures { λ r. ⌜ Writes 0 (method.prime-form (table-of jobs (now (rules .entry))) (now (plan .entry))) (now (out .entry)) r (now (out .exit)) ⌝ }
 {
     let mut lens = [0u16; 24];
-    prime_rows(jobs, rules, norms, &mut lens, rows);
+    prime_rows(jobs, rules, norms, &mut lens, area);
     let need = form_length(&lens, plan);
     if out.len() < need {
         return -10;
     }
-    write_form(rows, &lens, plan, out);
+    write_form(&area[0..12288], &lens, plan, out);
     answer::result(need)
 }

@@ -7,10 +7,11 @@ ghost use mathlib.Core.Path.{_≡_};
 ghost use mathlib.Core.Bool.{true};
 ghost use lib.ListN.{length, drop};
 ghost use Rattle.matching.specs.Pairs.{Tables, Behind};
-ghost use Rattle.matching.specs.Remembered.{Remembered};
-ghost use Rattle.fitting.specs.Fits.{Ordered, Facing, AllAnswered, Fitted};
+ghost use Rattle.matching.specs.Remembered.{memory-in, Remembered};
+ghost use Rattle.fitting.specs.Fits.{Ordered, Facing, Known, AllAnswered, Fitted};
 
-// Whether every rule of a job is answered by a rule of the other job of its pair.
+// Whether every rule of a job is answered by a rule of the other job of its pair. A rule that answers is answered itself, and is not
+// asked when it is the other job's turn.
 fn all_answered(
     jobs: usize,
     rules: &[u8],
@@ -26,19 +27,25 @@ fn all_answered(
     other: usize,
     buffer: &mut [u8; 520],
     top: usize,
-    memory: &mut [u8; 6048],
-    rows: &mut [u8],
+    known: &mut [u8; 252],
+    area: &mut [u8],
 ) -> bool
     requires { ⌜ Tables jobs (now rules) (now norms) (now low) (now sums) (now first) (now next) ⌝ }
     requires { ⌜ Facing jobs (now rules) (now norms) forward mine other (drop top (now buffer)) ⌝ }
     requires { ⌜ Behind jobs (now norms) (now buffer) top gap ⌝ }
-    requires { ⌜ Remembered jobs (now rules) (now norms) (now base) (now memory) ⌝ }
-    requires { ⌜ length (now rows) ≡ 12288 ⌝ }
-    ensures { λ out. ⌜ AllAnswered jobs (now (rules .entry)) (now (norms .entry)) (now (base .entry)) forward mine other top (now (buffer .entry)) (now (buffer .exit)) (now (memory .exit)) out ⌝ }
+    requires { ⌜ Known jobs (now rules) (now norms) (now base) forward mine other (drop top (now buffer)) (now known) ⌝ }
+    requires { ⌜ Remembered jobs (now rules) (now norms) (now base) (memory-in (now area)) ⌝ }
+    requires { ⌜ length (now area) ≡ 18336 ⌝ }
+    ensures { λ out. ⌜ AllAnswered jobs (now (rules .entry)) (now (norms .entry)) (now (base .entry)) forward mine other top (now (buffer .entry)) (now (buffer .exit)) (memory-in (now (area .exit))) (now (known .exit)) out ⌝ }
 {
     let total = rule_total(rules);
     let mut r = wide(first[mine]);
     while r < total {
+        let i = r;
+        r = wide(next[i]);
+        if 0 < known[i] {
+            continue;
+        }
         if answered(
             jobs,
             rules,
@@ -50,17 +57,17 @@ fn all_answered(
             base,
             gap,
             forward,
-            r,
+            i,
             other,
             buffer,
             top,
-            memory,
-            rows,
+            area,
         ) {
-            r = wide(next[r]);
-        } else {
-            return false;
+            let k = wide(area[12288 + (252 * other + i)]);
+            known[k] = 1;
+            continue;
         }
+        return false;
     }
     true
 }
@@ -77,16 +84,16 @@ pub fn fits(
     base: &[u8; 576],
     y: usize,
     x: usize,
-    memory: &mut [u8; 6048],
-    rows: &mut [u8],
+    area: &mut [u8],
 ) -> bool
     requires { ⌜ Tables jobs (now rules) (now norms) (now low) (now sums) (now first) (now next) ⌝ }
     requires { ⌜ Ordered jobs (now norms) y x ⌝ }
-    requires { ⌜ Remembered jobs (now rules) (now norms) (now base) (now memory) ⌝ }
-    requires { ⌜ length (now rows) ≡ 12288 ⌝ }
-    ensures { λ out. ⌜ Fitted jobs (now (rules .entry)) (now (norms .entry)) (now (base .entry)) y x (now (memory .exit)) out ⌝ }
+    requires { ⌜ Remembered jobs (now rules) (now norms) (now base) (memory-in (now area)) ⌝ }
+    requires { ⌜ length (now area) ≡ 18336 ⌝ }
+    ensures { λ out. ⌜ Fitted jobs (now (rules .entry)) (now (norms .entry)) (now (base .entry)) y x (memory-in (now (area .exit))) out ⌝ }
 {
     let mut buffer = [0u8; 520];
+    let mut known = [0u8; 252];
     let top = candidate(jobs, rules, norms, low, y, x, &mut buffer);
     let gap = norms[y] - norms[x];
     if all_answered(
@@ -104,8 +111,8 @@ pub fn fits(
         x,
         &mut buffer,
         top,
-        memory,
-        rows,
+        &mut known,
+        area,
     ) {
         return all_answered(
             jobs,
@@ -122,8 +129,8 @@ pub fn fits(
             y,
             &mut buffer,
             top,
-            memory,
-            rows,
+            &mut known,
+            area,
         );
     }
     false

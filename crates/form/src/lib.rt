@@ -1,5 +1,4 @@
 // Plans as the rows of their jobs write them: written out, measured, compared. By prime rows these are prime forms.
-use area::put_bytes;
 use area::wide;
 use rows::Difference;
 ghost use mathlib.Core.Path.{_≡_};
@@ -7,47 +6,11 @@ ghost use mathlib.Core.Bool.{true};
 ghost use mathlib.Core.List.{_++_};
 ghost use Prim.Native.Nat.{_+_, _≤_, _<_};
 ghost use lib.ListN.{length, drop};
-ghost use Rattle.area.specs.Areas.{put};
 ghost use Rattle.bpa.specs.Plans.{all-below};
 ghost use Rattle.bpa.specs.Norms.{sum-of};
 ghost use Rattle.bpa.specs.Method.{expand};
-ghost use Rattle.rows.specs.Region.{row, Within};
-ghost use Rattle.form.specs.Written.{Readable, Tells};
-
-// The rows of a plan's jobs one behind the other, from a place on. It gives the place behind them.
-pub fn write_expansion(
-    rows: &[u8],
-    lens: &[u16; 24],
-    plan: &[u8],
-    out: &mut [u8],
-    at: usize,
-) -> usize
-    requires { ⌜ Readable (now lens) (now rows) (now plan) ⌝ }
-    requires { ⌜ at + length (expand (row (now lens) (now rows)) (now plan)) ≤ length (now out) ⌝ }
-    ensures { λ r. ⌜ (r ≡ at + length (expand (row (now (lens .entry)) (now (rows .entry))) (now (plan .entry)))) × (now (out .exit) ≡ put at (expand (row (now (lens .entry)) (now (rows .entry))) (now (plan .entry))) (now (out .entry))) ⌝ }
-{
-    let mut end = at;
-    let mut i = 0;
-    while i < plan.len() {
-        let job = wide(plan[i]);
-        let start = 512 * job;
-        let len = lens[job] as usize;
-        let stop = start + len;
-        put_bytes(&rows[start..stop], end, out);
-        end += len;
-        i += 1;
-    }
-    end
-}
-
-// The rows of a plan's jobs behind the one job that stands already. It gives the length of the whole.
-pub fn write_rest(rows: &[u8], lens: &[u16; 24], plan: &[u8], out: &mut [u8]) -> usize
-    requires { ⌜ Readable (now lens) (now rows) (now plan) ⌝ }
-    requires { ⌜ 1 + length (expand (row (now lens) (now rows)) (now plan)) ≤ length (now out) ⌝ }
-    ensures { λ r. ⌜ (r ≡ 1 + length (expand (row (now (lens .entry)) (now (rows .entry))) (now (plan .entry)))) × (now (out .exit) ≡ put 1 (expand (row (now (lens .entry)) (now (rows .entry))) (now (plan .entry))) (now (out .entry))) ⌝ }
-{
-    write_expansion(rows, lens, plan, out, 1)
-}
+ghost use Rattle.rows.specs.Region.{row, Within, Readable};
+ghost use Rattle.form.specs.Written.{Tells};
 
 // The form of a plan. What stands behind it is left.
 pub fn write_form(rows: &[u8], lens: &[u16; 24], plan: &[u8], out: &mut [u8])
@@ -55,7 +18,7 @@ pub fn write_form(rows: &[u8], lens: &[u16; 24], plan: &[u8], out: &mut [u8])
     requires { ⌜ length (expand (row (now lens) (now rows)) (now plan)) ≤ length (now out) ⌝ }
     ensures { λ _. ⌜ now (out .exit) ≡ expand (row (now (lens .entry)) (now (rows .entry))) (now (plan .entry)) ++ drop (length (expand (row (now (lens .entry)) (now (rows .entry))) (now (plan .entry)))) (now (out .entry)) ⌝ }
 {
-    write_expansion(rows, lens, plan, out, 0);
+    rows::expanding::write_expansion(rows, lens, plan, out, 0);
 }
 
 // The number of jobs in the form of a plan.

@@ -9,7 +9,7 @@ use lib.ListN.{getD, take, drop, drop-of-length-le}
 use lib.Seq.{take-at, getD-take, getD-drop}
 use Rattle.bpa.specs.Plans.{all-below}
 use Rattle.rules.specs.Places.{rule-count, table-of, table-refusal}
-use Rattle.rules.proofs.JobLaws.{below-at}
+use Rattle.bpa.proofs.Basics.JobsBelow.{below-at}
 use Rattle.image.specs.Image.{block, blocks-in, rules-in-block, block-places, places-from, image-jobs, image-places, table-in, layout-refusal, image-refusal}
 use Rattle.image.specs.Writing.{blocks-for, rules-for, written-block, written-from, written, list-refusal, write-refusal}
 use Rattle.image.specs.Filling.{filled}

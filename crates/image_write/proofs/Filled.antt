@@ -7,7 +7,7 @@ use native.Mathlib.Omega.{arith}
 use lib.ListN.{length, take, replicate, length-replicate}
 use lib.Seq.{take-take, take-all}
 use Rattle.area.specs.Areas.{put}
-use Rattle.area.proofs.Puts.{put-front, put-length}
+use Rattle.area.proofs.Puts.{put-up-to, put-length}
 use Rattle.image.specs.Image.{byte-sum, checksum}
 use Rattle.image.specs.Writing.{low-first}
 use Rattle.image.specs.Filling.{Fills, filled-body, filled}
@@ -24,7 +24,7 @@ further at e block block′ front new f end fits h =
     let whole = f .whole in
     let room : at + length new ≤ length block = omega arith in record {
       whole = ap length h ∙ put-length at new block room ∙ whole;
-      known = (λ i. take (end i) (h i)) ∙ put-front at new block room ∙ ap (λ l. l ++ new) (f .known);
+      known = (λ i. take (end i) (h i)) ∙ put-up-to at new block room ∙ ap (λ l. l ++ new) (f .known);
     }
 
 -- the checksum of a block is that of its first 510 bytes

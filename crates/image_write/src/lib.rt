@@ -34,7 +34,7 @@ fn fill_block(jobs: usize, k: usize, blocks: usize, rules: &[u8], block: &mut [u
 {
     let end = 2 + rules.len();
     put_two(jobs, rules.len() / 8, 0, block);
-    area::put_bytes(rules, 2, block);
+    area::put(block, 2, rules);
     area::put_zeros(end, 506, block);
     put_number(k, 506, block);
     put_number(blocks, 508, block);

@@ -10,8 +10,8 @@ use Rattle.image.specs.Image.{image-refusal, image-jobs, image-places, table-in
 use Rattle.image.proofs.TableBytes.{bytes-of-list}
 use Rattle.answer.specs.Answer.{signed, Writes}
 use Rattle.answer.proofs.Writing.{writes-refused, writes-short, writes-bytes}
-use Rattle.output.specs.Output.{put-at, IsPut}
-use Rattle.output.proofs.PutLaws.{put-one, put-put, put-front}
+use Rattle.area.specs.Areas.{put, IsPut}
+use Rattle.area.proofs.PutLaws.{put-one, put-put, put-front}
 use Rattle.table.specs.Loading.{HoldsAccepted, Loads}
 
 module _ (bs : List ℕ) (f jobs count : ℕ) (rules ns : List ℕ) (l : Loads bs f jobs count rules ns) (o : List ℕ) where
@@ -49,7 +49,7 @@ module _ (bs : List ℕ) (f jobs count : ℕ) (rules ns : List ℕ) (l : Loads b
         writes-bytes (image-refusal bs) (table-bytes (table-in bs)) o r o′ none (omega (arith, need))
         (e ∙ ap pos (p .next ∙ omega (arith, need, size)))
         (p .output
-        ∙ ap (put-at 1 ps) (sym (put-one 0 jobs o (omega arith)))
+        ∙ ap (put 1 ps) (sym (put-one 0 jobs o (omega arith)))
         ∙ put-put 0 (jobs ∷ []) ps o (omega arith)
         ∙ put-front (jobs ∷ ps) o
         ∙ ap (λ (x : List ℕ). x ++ drop (length x) o) (sym bytes))

@@ -17,7 +17,7 @@ pub fn read_image(image: &[u8], out: &mut [u8]) -> i32
         return -10;
     }
     out[0] = table.jobs as u8;
-    answer::result(output::put(out, 1, &rules[0..end]))
+    answer::result(area::put(out, 1, &rules[0..end]))
 }
 
 // The image of a job count and a list of 8-byte rules, each laid out as a place of the image.

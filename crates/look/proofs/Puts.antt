@@ -1,18 +1,18 @@
 -- Bytes put into a line, one part behind the other. Assumes nothing.
 use mathlib.Core.Path.{_≡_, subst, ap₂, _∙_}
 use mathlib.Core.List.{List, _++_}
-use Prim.Native.Nat.{ℕ, _+_, _≤_, zero-le}
+use Prim.Native.Nat.{ℕ, _≤_, zero-le}
 use native.Mathlib.Omega.{arith}
 use lib.ListN.{length, length-append}
-use Rattle.output.specs.Output.{put-at, IsPut}
-use Rattle.output.proofs.PutLaws.{put-put}
+use Rattle.area.specs.Areas.{put, IsPut}
+use Rattle.area.proofs.PutLaws.{put-put}
 
 -- two puts are one
 pub put-both : {i r s : ℕ} {bs cs xs ys zs : List ℕ} → i ≤ length xs → IsPut i bs xs r ys → IsPut r cs ys s zs → IsPut i (bs ++ cs) xs s zs
 put-both {i} {r} {s} {bs} {cs} {xs} h p q =
     record {
       next = q .next ∙ omega (arith, p .next, length-append bs cs);
-      output = q .output ∙ ap₂ (λ (k : ℕ) (l : List ℕ). put-at k cs l) (p .next) (p .output) ∙ put-put i bs cs xs h;
+      output = q .output ∙ ap₂ (λ (k : ℕ) (l : List ℕ). put k cs l) (p .next) (p .output) ∙ put-put i bs cs xs h;
     }
 
 -- a put at the front, and one behind it

@@ -3,7 +3,7 @@ use mathlib.Core.List.{List, [], _∷_, _++_}
 use Prim.Native.Nat.{ℕ, zero, suc, _≤_}
 use lib.IntN.{ℤ}
 use lib.ListN.{length}
-use Rattle.output.specs.Output.{IsPut}
+use Rattle.area.specs.Areas.{IsPut}
 use Rattle.look.specs.Numbers.{number, refusal-in, result-in}
 
 -- a word and a number behind it

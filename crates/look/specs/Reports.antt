@@ -9,7 +9,7 @@ use Rattle.bpa.specs.Method.{same, prime-form}
 use Rattle.image.specs.Image.{image-refusal, table-in}
 use Rattle.answer.specs.Answer.{signed}
 use Rattle.entries.specs.Entries.{two-refusal, one-if}
-use Rattle.output.specs.Output.{IsPut}
+use Rattle.area.specs.Areas.{IsPut}
 use Rattle.look.specs.Lines.{IsLine, refused-line, table-line, job-line, pair-line}
 
 -- the first line, of an accepted table or of a refusal

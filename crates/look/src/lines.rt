@@ -3,7 +3,7 @@ ghost use mathlib.Core.Path.{_≡_};
 ghost use mathlib.Core.List.{[], _∷_};
 ghost use Prim.Native.Nat.{_+_, _*_, _≤_};
 ghost use lib.ListN.{length};
-ghost use Rattle.output.specs.Output.{IsPut};
+ghost use Rattle.area.specs.Areas.{IsPut};
 ghost use Rattle.look.specs.Numbers.{refusal-in, result-in};
 ghost use Rattle.look.specs.Lines.{IsLine, field, jobs-text, refused-line, table-line, job-line, pair-line};
 
@@ -14,8 +14,8 @@ fn put_field(line: &mut [u8], at: usize, word: &[u8], value: u64) -> usize
 {
     let mut text = [0u8; 20];
     let size = io::decimal(value, &mut text);
-    let next = output::put(line, at, word);
-    output::put(line, next, &text[0..size])
+    let next = area::put(line, at, word);
+    area::put(line, next, &text[0..size])
 }
 
 // The number of a refusal, and 0 for a result.
@@ -42,7 +42,7 @@ pub fn refused_line(refusal: u64, line: &mut [u8]) -> usize
     ensures { λ r. ⌜ IsLine (refused-line refusal) (now (line .entry)) r (now (line .exit)) ⌝ }
 {
     let next = put_field(line, 0, b"refused ", refusal);
-    output::put(line, next, b"\n")
+    area::put(line, next, b"\n")
 }
 
 // `table JOBS RULES`.
@@ -52,7 +52,7 @@ pub fn table_line(jobs: u64, rules: u64, line: &mut [u8]) -> usize
 {
     let first = put_field(line, 0, b"table ", jobs);
     let next = put_field(line, first, b" ", rules);
-    output::put(line, next, b"\n")
+    area::put(line, next, b"\n")
 }
 
 // A job behind a space.
@@ -85,7 +85,7 @@ pub fn job_line(job: u8, norm: u64, form: &[u8], line: &mut [u8]) -> usize
     let first = put_field(line, 0, b"job ", job as u64);
     let second = put_field(line, first, b" ", norm);
     let next = put_jobs(line, second, form);
-    output::put(line, next, b"\n")
+    area::put(line, next, b"\n")
 }
 
 // `pair K same`, `pair K apart` or `pair K refused N`.
@@ -97,10 +97,10 @@ pub fn pair_line(pair: u64, answer: i32, line: &mut [u8]) -> usize
     let refusal = refusal_in(answer);
     if refusal != 0 {
         let next = put_field(line, first, b" refused ", refusal);
-        return output::put(line, next, b"\n");
+        return area::put(line, next, b"\n");
     }
     if result_in(answer) != 0 {
-        return output::put(line, first, b" same\n");
+        return area::put(line, first, b" same\n");
     }
-    output::put(line, first, b" apart\n")
+    area::put(line, first, b" apart\n")
 }

@@ -1,12 +1,13 @@
--- Failed answers, remembered: one place rewritten, and the base made smaller. Assumes nothing.
+-- Failed answers, remembered: where they stand in the area, one place rewritten, and a search that goes on. Assumes nothing.
 use mathlib.Core.Path.{_≡_, sym, ap, _∙_, subst}
 use mathlib.Core.Bool.{Bool, true, false}
 use mathlib.Core.List.{List, []}
-use Prim.Native.Nat.{ℕ, _+_, _*_, _≤_, _<_, max}
+use Prim.Native.Nat.{ℕ, _+_, _*_, _-_, _≤_, _<_, max}
 use native.Mathlib.Omega.{arith}
 use lib.Dec.{eqb, ltb}
-use lib.ListN.{getD, set, length-set}
-use lib.Seq.{getD-set-same, getD-set-other}
+use lib.ListN.{length, getD, set, length-set}
+use lib.Seq.{getD-set-same, getD-set-other, getD-drop, drop-set-add}
+use borrow.Rule.Slice.PartMut.{midOf, putMid, drop-put, mid-len}
 use borrow.Author.Tests.{eqb-true, eqb-false, ltb-true, ltb-false}
 use Rattle.bpa.specs.Plans.{Table, Move}
 use Rattle.bpa.specs.Method.{Base}
@@ -17,8 +18,20 @@ use Rattle.prepare.specs.Prepared.{move-of, OnChain, Chained}
 use Rattle.prepare.proofs.Chains.{chain-start, start-gap}
 use Rattle.judge.specs.Judging.{byte-base}
 use Rattle.matching.specs.Pairs.{answers, near, far, Faces}
-use Rattle.matching.specs.Remembered.{pair-answers, Remembered, Asking}
+use Rattle.matching.specs.Remembered.{pair-answers, memory-in, Remembered, Asking}
 use Rattle.matching.proofs.Searching.{None-before}
+
+-- THE AREA: a byte of the memory read and written, and the rows in front of it lent
+module _ (area : List ℕ) where
+  pub byte-read : (i : ℕ) → getD area (12288 + i) 0 ≡ getD (memory-in area) i 0
+  byte-read i = sym (getD-drop 12288 area i 0)
+
+  pub byte-written : (i v : ℕ) → memory-in (set area (12288 + i) v) ≡ set (memory-in area) i v
+  byte-written i v = drop-set-add 12288 area i v
+
+  pub rows-lent : (rows : List ℕ) → 12288 ≤ length area → length rows ≡ length (midOf 0 (12288 - 0) area) →
+      memory-in (putMid 0 (12288 - 0) area rows) ≡ memory-in area
+  rows-lent rows h e = drop-put 0 12288 area rows (omega arith) h (e ∙ mid-len 0 12288 area h)
 
 -- what is remembered of a rule and a job is what was asked, whichever way
 module _ (t : Table) (ns : List ℕ) (b : Base) (rs : List ℕ) (r k : ℕ) where

@@ -1,4 +1,4 @@
--- A search among the rules of a job: rules that do not answer may be passed, and the first that answers ends it. Assumes nothing.
+-- A search among the rules of a job: rules that do not answer may be passed, and one that answers ends it. Assumes nothing.
 use mathlib.Core.Path.{_≡_, refl, sym, ap, _∙_, subst}
 use mathlib.Core.Bool.{Bool, true, false, true≢false}
 use mathlib.Core.List.{List, [], _∷_}
@@ -58,10 +58,26 @@ module _ (t : Table) (ns : List ℕ) (b : Base) where
     pass-all zero h f = refl
     pass-all (suc k) h f = pass-all k (omega arith) (λ i l. f i (omega arith)) ∙ pass-one k (omega arith) (f k (omega arith))
 
-    pub search-found : (k : ℕ) → k < rule-count rs → OnChain rs o k → None-before k → answers t ns b m (move-of rs k c) ≡ true →
+    -- a rule that answers is enough, wherever it stands
+    reach-one : (i : ℕ) → i < rule-count rs → answered (judged t ns b) m (moves-at rs o c (suc i)) ≡ true →
+        answered (judged t ns b) m (moves-at rs o c i) ≡ true
+    reach-one i h f =
+        by-test (of-job o (rule-at rs i))
+        (λ e.
+        let step = moves-step rs o c i h e in
+        by-test (answers t ns b m (move-of rs i c)) (answer-found m (move-of rs i c) _ _ step)
+        (λ q. answer-passed m (move-of rs i c) _ _ step q ∙ f))
+        (λ e. ap (answered (judged t ns b) m) (moves-other rs o c i h e) ∙ f)
+
+    reach-all : (k : ℕ) → k ≤ rule-count rs → answered (judged t ns b) m (moves-at rs o c k) ≡ true →
         answered (judged t ns b) m (job-moves o c (all-rules rs)) ≡ true
-    search-found k h on f e =
-        pass-all k (omega arith) f ∙ answer-found m (move-of rs k c) _ _ (moves-step rs o c k h (job-own o (rule-at rs k) (on .own h))) e
+    reach-all zero h f = f
+    reach-all (suc k) h f = reach-all k (omega arith) (reach-one k (omega arith) f)
+
+    pub search-found : (k : ℕ) → k < rule-count rs → rule-at rs k .job ≡ o → answers t ns b m (move-of rs k c) ≡ true →
+        answered (judged t ns b) m (job-moves o c (all-rules rs)) ≡ true
+    search-found k h own e =
+        reach-all k (omega arith) (answer-found m (move-of rs k c) _ _ (moves-step rs o c k h (job-own o (rule-at rs k) own)) e)
 
     pub search-ends : (k : ℕ) → k ≤ rule-count rs → rule-count rs ≤ k → None-before k →
         answered (judged t ns b) m (job-moves o c (all-rules rs)) ≡ false

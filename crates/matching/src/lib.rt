@@ -16,7 +16,7 @@ ghost use Rattle.prepare.specs.Prepared.{move-of, RowNorms};
 ghost use Rattle.candidate.specs.Ready.{Ready};
 ghost use Rattle.judge.specs.Judging.{byte-base};
 ghost use Rattle.matching.specs.Pairs.{Tables, Behind, Told, answers, near, far};
-ghost use Rattle.matching.specs.Remembered.{Remembered, Asking, Answered};
+ghost use Rattle.matching.specs.Remembered.{memory-in, Remembered, Asking, Answered};
 
 // Are a plan and what stands in a buffer from a place on the same by the base?
 fn judge_from(
@@ -161,19 +161,18 @@ pub fn answered(
     other: usize,
     buffer: &mut [u8; 520],
     top: usize,
-    memory: &mut [u8; 6048],
-    rows: &mut [u8],
+    area: &mut [u8],
 ) -> bool
     requires { ⌜ Tables jobs (now rules) (now norms) (now low) (now sums) (now first) (now next) ⌝ }
     requires { ⌜ Asking jobs (now rules) (now norms) forward r other (drop top (now buffer)) ⌝ }
     requires { ⌜ Behind jobs (now norms) (now buffer) top gap ⌝ }
-    requires { ⌜ Remembered jobs (now rules) (now norms) (now base) (now memory) ⌝ }
-    requires { ⌜ length (now rows) ≡ 12288 ⌝ }
-    ensures { λ out. ⌜ Answered jobs (now (rules .entry)) (now (norms .entry)) (now (base .entry)) forward r other top (now (buffer .entry)) (now (buffer .exit)) (now (memory .exit)) out ⌝ }
+    requires { ⌜ Remembered jobs (now rules) (now norms) (now base) (memory-in (now area)) ⌝ }
+    requires { ⌜ length (now area) ≡ 18336 ⌝ }
+    ensures { λ out. ⌜ Answered jobs (now (rules .entry)) (now (norms .entry)) (now (base .entry)) forward r other top (now (buffer .entry)) (now (buffer .exit)) (memory-in (now (area .exit))) out ⌝ }
 {
     let total = rule_total(rules);
-    let place = 252 * other + r;
-    let mut k = later(first[other], memory[place]);
+    let place = 12288 + (252 * other + r);
+    let mut k = later(first[other], area[place]);
     while k < total {
         if answers_way(
             jobs,
@@ -188,13 +187,13 @@ pub fn answered(
             k,
             buffer,
             top,
-            rows,
+            &mut area[0..12288],
         ) {
-            memory[place] = k as u8;
+            area[place] = k as u8;
             return true;
         }
         k = wide(next[k]);
     }
-    memory[place] = total as u8;
+    area[place] = total as u8;
     false
 }

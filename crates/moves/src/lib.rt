@@ -34,8 +34,8 @@ fn write_move(rules: &[u8], i: usize, waiting: &[u8], out: &mut [u8]) -> usize
     ensures { λ r. ⌜ InFront (bytes-by (now (rules .entry)) i (now (waiting .entry))) (now (out .entry)) r (now (out .exit)) ⌝ }
 {
     out[0] = rules::rule_move(rules, i) as u8;
-    let behind = output::put(out, 1, rules::rule_after(rules, i));
-    output::put(out, behind, waiting)
+    let behind = area::put(out, 1, rules::rule_after(rules, i));
+    area::put(out, behind, waiting)
 }
 
 // The n-th move of a plan, one for each rule of its first job in image order. It gives the number of bytes written, 0 for no

@@ -7,18 +7,18 @@ use native.Mathlib.Omega.{arith}
 use lib.IntN.{ℤ, pos}
 use lib.ListN.{length, take}
 use Rattle.bpa.specs.Plans.{Table, over, all-below, moves}
-use Rattle.bpa.specs.Norms.{sum-of, norms as table-norms, norm, Good}
+use Rattle.bpa.specs.Norms.{sum-of, norm}
 use Rattle.bpa.proofs.Basics.Plans.{length-norm}
 use Rattle.rules.specs.Places.{table-of}
-use Rattle.rules.specs.Lists.{GoodList}
-use Rattle.rules.proofs.JobLaws.{below-more}
-use Rattle.norm.specs.NormArrays.{ExactNorms}
+use Rattle.bpa.proofs.Basics.JobsBelow.{below-more}
+use Rattle.norm.specs.NormArrays.{GoodNorms}
 use Rattle.refusal.proofs.Plans.{array-norm}
 use Rattle.image.specs.Image.{image-jobs, table-in}
 use Rattle.answer.specs.Answer.{signed, Writes}
 use Rattle.answer.proofs.Writing.{first-refusal, next-refusal, writes-refused}
 use Rattle.moves.specs.Moves.{move-bytes}
 use Rattle.runs.specs.Runs.{room-refusal, Run-output, ShortestRun}
+use Rattle.table.proofs.LoadedTable.{same-table, good-norms}
 use Rattle.table.specs.Loading.{HoldsAccepted, LoadsWith}
 use Rattle.entries.specs.Entries.{one-refusal, norm-answer, run-refusal, Ran}
 
@@ -58,18 +58,11 @@ module _ (bs p : List ℕ) (f jobs count : ℕ) (rules ns : List ℕ) (l : Loads
     none : one-refusal bs p ≡ 0
     none = sym refusal-is ∙ z
 
-    same-table : table-of jobs (take (8 * count) rules) ≡ table-in bs
-    unfolding table-in
-    same-table = rw (table .jobs-are, table .rules-are) refl
+    is-table : table-of jobs (take (8 * count) rules) ≡ table-in bs
+    is-table = same-table bs jobs count rules ns table
 
-    pub list : GoodList jobs (take (8 * count) rules)
-    list = rw (table .jobs-are, table .rules-are) (table .list)
-
-    pub good : Good (table-of jobs (take (8 * count) rules)) (table-norms (table-of jobs (take (8 * count) rules)))
-    good = rw same-table (table .good)
-
-    pub norms : ExactNorms (table-of jobs (take (8 * count) rules)) ns
-    norms = rw same-table (table .norms-are)
+    pub loaded : GoodNorms jobs (take (8 * count) rules) ns
+    loaded = good-norms bs jobs count rules ns table
 
     -- a plan of few moves has few jobs
     pub plan-short : length p ≤ 4096
@@ -79,10 +72,10 @@ module _ (bs p : List ℕ) (f jobs count : ℕ) (rules ns : List ℕ) (l : Loads
         omega (arith, length-norm (table-in bs) _ (table .good) p (a .over-table), a .norm-small)
 
     pub plan-over : over (table-of jobs (take (8 * count) rules)) p ≡ true
-    plan-over = rw same-table (l .plan-good z .over-table)
+    plan-over = rw is-table (l .plan-good z .over-table)
 
     pub plan-small : norm (table-of jobs (take (8 * count) rules)) p ≤ 4096
-    plan-small = rw same-table (l .plan-good z .norm-small)
+    plan-small = rw is-table (l .plan-good z .norm-small)
 
     pub plan-within : all-below 24 p ≡ true
     unfolding over table-in table-of
@@ -100,13 +93,13 @@ module _ (bs p : List ℕ) (f jobs count : ℕ) (rules ns : List ℕ) (l : Loads
         Writes 0 (move-bytes (moves (table-of jobs (take (8 * count) rules)) p) k) o r o′ →
         Writes (one-refusal bs p) (move-bytes (moves (table-in bs) p) k) o r o′
     move-given k o r o′ w =
-        rw none (subst (λ (t : Table). Writes 0 (move-bytes (moves t p) k) o r o′) same-table w)
+        rw none (subst (λ (t : Table). Writes 0 (move-bytes (moves t p) k) o r o′) is-table w)
 
     pub run-given : (o : List ℕ) (r : ℤ) (o′ : List ℕ) →
         ShortestRun (table-of jobs (take (8 * count) rules)) p o r o′ → Ran bs p o r o′
     unfolding run-refusal
     run-given o r o′ w =
-        let s : ShortestRun (table-in bs) p o r o′ = subst (λ (t : Table). ShortestRun t p o r o′) same-table w in
+        let s : ShortestRun (table-in bs) p o r o′ = subst (λ (t : Table). ShortestRun t p o r o′) is-table w in
         let k = sym (next-refusal (one-refusal bs p) (room-refusal (table-in bs) p o) none) in
         record {
           answer = s .answer ∙ ap (λ (x : ℕ). signed x (norm (table-in bs) p)) k;

@@ -2,14 +2,14 @@
 use mathlib.Core.Path.{_≡_}
 use mathlib.Core.Bool.{Bool, _&&_, cond}
 use mathlib.Core.List.{List, [], _∷_, _++_}
-use Prim.Native.Nat.{ℕ, suc, _+_, _%_, _^_, _≤_, _<_}
+use Prim.Native.Nat.{ℕ, suc, _+_, _-_, _*_, _%_, _^_, _≤_, _<_}
 use lib.Bits.{bitOr}
 use lib.Dec.{eqb}
 use lib.ListN.{length, getD, drop}
 use Rattle.bpa.specs.Plans.{Rule, Move}
 use Rattle.bpa.specs.Norms.{sum-of, Good}
 use Rattle.bpa.specs.Method.{lowering}
-use Rattle.bpa.proofs.Base.SameBase.{Same-moves}
+use Rattle.bpa.proofs.Base.SameBase.{Same-steps}
 use Rattle.rules.specs.Places.{rule-at, rule-count, rules-in, table-of}
 use Rattle.rules.specs.Lists.{GoodList}
 
@@ -69,14 +69,15 @@ pub record OnChain (rs : List ℕ) (j i : ℕ) : Type 0 where
   pub within : i ≤ rule-count rs
   pub own : i < rule-count rs → rule-at rs i .job ≡ j
 
--- bits joined, one for each move of a job's rules
-unfoldable pub move-bit : Rule → ℕ
-move-bit r = 2 ^ (r .move % 64)
+-- a bit for each step: its move and its change of the norm, which is at least -512
+unfoldable pub step-bit : (norms : List ℕ) → Rule → ℕ
+step-bit ns r = 2 ^ ((r .move + 11 * (sum-of ns (r .after) + 512 - getD ns (r .job) 0)) % 64)
 
-unfoldable pub mark : (job : ℕ) → List Rule → ℕ
-mark j [] = 0
-mark j (r ∷ rs) = cond (of-job j r) (bitOr (mark j rs) (move-bit r)) (mark j rs)
+-- the bits of a job's rules, joined
+unfoldable pub mark : (norms : List ℕ) → (job : ℕ) → List Rule → ℕ
+mark ns j [] = 0
+mark ns j (r ∷ rs) = cond (of-job j r) (bitOr (mark ns j rs) (step-bit ns r)) (mark ns j rs)
 
--- MARKS of the jobs: jobs with the same moves have the same mark
-pub record Marked (n : ℕ) (rs marks : List ℕ) : Type 0 where
-  pub same : (y x : ℕ) → Same-moves (table-of n rs) y x → y < n → x < n → getD marks y 0 ≡ getD marks x 0
+-- MARKS of the jobs: jobs with the same steps have the same mark
+pub record Marked (n : ℕ) (rs ns marks : List ℕ) : Type 0 where
+  pub same : (y x : ℕ) → Same-steps (table-of n rs) ns y x → y < n → x < n → getD marks y 0 ≡ getD marks x 0

@@ -83,17 +83,20 @@ pub fn chain_rules(jobs: usize, rules: &[u8], next: &mut [u8; 252]) -> [u8; 24]
     first
 }
 
-// A mark for each job, of the moves that its rules make: jobs with the same moves have the same mark.
-pub fn mark_moves(jobs: usize, rules: &[u8]) -> [u64; 24]
-    requires { ⌜ GoodList jobs (now rules) ⌝ }
-    ensures { λ r. ⌜ Marked jobs (now (rules .entry)) r ⌝ }
+// A mark for each job, of the moves that its rules make and of how each changes the norm: jobs with the same steps have the same mark.
+pub fn mark_steps(jobs: usize, rules: &[u8], norms: &[u16; 24], sums: &[u16; 252]) -> [u64; 24]
+    requires { ⌜ Normed jobs (now rules) (now norms) ⌝ }
+    requires { ⌜ RowNorms (now rules) (now norms) (now sums) ⌝ }
+    ensures { λ r. ⌜ Marked jobs (now (rules .entry)) (now (norms .entry)) r ⌝ }
 {
     let mut marks = [0u64; 24];
     let mut i = rule_total(rules);
     while 0 < i {
         i -= 1;
         let j = rule_job(rules, i);
-        marks[j] = marks[j] | (1u64 << (rule_move(rules, i) % 64));
+        let change = sums[i] + 512 - norms[j];
+        let step = rule_move(rules, i) + 11 * change as u32;
+        marks[j] = marks[j] | (1u64 << (step % 64));
     }
     marks
 }

@@ -13,10 +13,11 @@ use Rattle.bpa.proofs.Basics.Cases.{same-test}
 use Rattle.bpa.proofs.Base.ExactBase.{Exact}
 use Rattle.bpa.proofs.Forms.PrimeForms.{form-by-rows, form-short}
 use Rattle.bpa.proofs.Answers.{same-forms, form-same-form}
-use Rattle.rows.specs.Region.{row}
+use Rattle.rows.specs.Region.{row, Readable}
 use Rattle.rows.specs.Replacing.{NewRows}
-use Rattle.form.specs.Written.{Tells, Readable}
-use Rattle.form.proofs.Expanding.{form-long, within-readable}
+use Rattle.rows.proofs.WrittenPlans.{within-readable}
+use Rattle.form.specs.Written.{Tells}
+use Rattle.form.proofs.Lengths.{form-long}
 
 -- a base that agrees with an exact one on the pairs of jobs is exact
 pub exact-agrees : (t : Table) (ns : List ℕ) (b c : Base) → Exact t ns b →

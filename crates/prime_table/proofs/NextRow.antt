@@ -7,7 +7,7 @@ use native.Mathlib.Omega.{arith}
 use lib.ListN.{length, getD, take, drop, set, length-set, length-drop}
 use lib.Seq.{take-suc-set, take-all}
 use Rattle.area.specs.Areas.{put}
-use Rattle.area.proofs.Puts.{put-front, put-length}
+use Rattle.area.proofs.Puts.{put-up-to, put-length}
 use Rattle.bpa.specs.Plans.{Table}
 use Rattle.bpa.specs.Norms.{Good}
 use Rattle.bpa.specs.Method.{Base, candidate, expand, least-pair, prime-rows}
@@ -15,9 +15,8 @@ use Rattle.bpa.proofs.Basics.Order.{less-precedes, precedes-le}
 use Rattle.bpa.proofs.Basics.EachJob.{Each, expand-agree}
 use Rattle.bpa.proofs.Forms.LeastPair.{Least, least-some}
 use Rattle.bpa.proofs.Forms.PrimeRows.{rest-jobs, rest-lower, rows-alone, rows-paired, rows-short}
-use Rattle.rows.specs.Region.{row}
+use Rattle.rows.specs.Region.{row, Readable}
 use Rattle.candidate.specs.Ready.{EndsIn}
-use Rattle.form.specs.Written.{Readable}
 use Rattle.order.specs.Order.{ordered}
 use Rattle.order.proofs.OrderedJobs.{has-at, place-below, place-rising, place-earlier}
 use Rattle.prime_table.specs.Primes.{FirstHeld, Built, PrimeRow}
@@ -96,7 +95,7 @@ module _ (t : Table) (ns : List ℕ) (g : Good t ns) (b : Base) (ord lens region
           size = put-length 1 v (set out 0 (getD ord r 0)) fits ∙ whole;
           some = omega arith;
           short = room;
-          is = put-front 1 v (set out 0 (getD ord r 0)) fits
+          is = put-up-to 1 v (set out 0 (getD ord r 0)) fits
               ∙ ap (λ (p : List ℕ). p ++ v) (take-suc-set out 0 (getD ord r 0) (omega arith))
               ∙ sym paired;
         }

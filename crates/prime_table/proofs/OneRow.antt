@@ -10,10 +10,10 @@ use lib.ListN.{length, getD, take, drop, set}
 use lib.Seq.{length-take-le, getD-set-same, getD-set-other, take-append-le, take-take, drop-drop, drop-at}
 use borrow.Author.Tests.{ltb-true, ltb-false}
 use Rattle.area.specs.Areas.{put}
-use Rattle.area.proofs.Puts.{put-front, put-behind}
+use Rattle.area.proofs.Puts.{put-up-to, put-behind}
 use Rattle.bpa.proofs.Basics.Cases.{by-test}
 use Rattle.rows.specs.Region.{row}
-use Rattle.rows.proofs.Parts.{part}
+use Rattle.area.proofs.Parts.{part}
 
 module _ (lens region v : List ℕ) (y n : ℕ) (fits : 512 * y + length v ≤ length region) (e : length v ≡ n) where
   pub row-new : y < length lens → row (set lens y n) (put (512 * y) v region) y ≡ v
@@ -23,7 +23,7 @@ module _ (lens region v : List ℕ) (y n : ℕ) (fits : 512 * y + length v ≤ l
       ap (λ (m : ℕ). take m (drop (512 * y) (put (512 * y) v region))) (getD-set-same lens y n 0 h)
       ∙ part (512 * y) n (put (512 * y) v region)
       ∙ ap (λ (m : ℕ). drop (512 * y) (take m (put (512 * y) v region))) to
-      ∙ ap (drop (512 * y)) (put-front (512 * y) v region fits)
+      ∙ ap (drop (512 * y)) (put-up-to (512 * y) v region fits)
       ∙ drop-at (take (512 * y) region) v (512 * y) (length-take-le (512 * y) region (omega arith))
 
   -- before the row, and behind it
@@ -32,7 +32,7 @@ module _ (lens region v : List ℕ) (y n : ℕ) (fits : 512 * y + length v ≤ l
       let m = a + c in
       let f : take m (put (512 * y) v region) ≡ take m region =
       sym (take-take m (512 * y + length v) (put (512 * y) v region) (omega arith))
-      ∙ ap (take m) (put-front (512 * y) v region fits)
+      ∙ ap (take m) (put-up-to (512 * y) v region fits)
       ∙ take-append-le m (take (512 * y) region) v (rw (length-take-le (512 * y) region (omega arith)) h)
       ∙ take-take m (512 * y) region h in
       part a c (put (512 * y) v region) ∙ ap (drop a) f ∙ sym (part a c region)

@@ -1,5 +1,4 @@
 // The prime rows of all jobs: job by job in order, each by its first pair in the base and the rows so far.
-use area::put_bytes;
 use area::wide;
 ghost use mathlib.Core.Path.{_≡_};
 ghost use Prim.Native.Nat.{ℕ, _≤_, _<_};
@@ -57,7 +56,7 @@ fn prime_row(
     out[0] = ord[k];
     let mut rest = [0u8; 520];
     let top = candidate::candidate(jobs, rules, norms, low, y, x, &mut rest);
-    form::write_rest(rows, lens, &rest[top..520], out)
+    rows::expanding::write_rest(rows, lens, &rest[top..520], out)
 }
 
 // The rows of all jobs. Each is written once, and read by later jobs only.
@@ -82,7 +81,7 @@ pub fn prime_table(
     while i < jobs {
         let y = wide(ord[i]);
         let len = prime_row(jobs, rules, norms, low, base, ord, lens, rows, i, &mut row);
-        put_bytes(&row[0..len], 512 * y, rows);
+        area::put(rows, 512 * y, &row[0..len]);
         lens[y] = len as u16;
         i += 1;
     }

@@ -1,6 +1,6 @@
--- A table that neither refusal 6 nor refusal 7 meets: its array of norms is exact, and it is a good table. Assumes nothing.
+-- A table that neither refusal 6 nor refusal 7 meets: its array of norms is exact, and so are good norms read from it. Assumes nothing.
 use mathlib.Core.Path.{_≡_, refl, sym, ap, ap₂, _∙_}
-use mathlib.Core.Bool.{Bool, true, false, _||_, cond, true≢false}
+use mathlib.Core.Bool.{Bool, _||_, cond}
 use mathlib.Core.List.{List, [], _∷_, map}
 use Prim.Native.Nat.{ℕ, zero, suc, _≤_, _<_, min}
 use native.Mathlib.Decide.{decLt}
@@ -8,14 +8,13 @@ use native.Mathlib.Omega.{arith}
 use lib.Dec.{ltb, eqb}
 use lib.ListN.{length, getD, take, length-take, length-map, List·getD-map}
 use lib.Seq.{ext-getD, getD-take}
-use borrow.Author.Tests.{eqb-false, ltb-false, lt-ltb, le-ltb, ne-eqb}
+use borrow.Author.Tests.{lt-ltb, le-ltb, ne-eqb}
 use Rattle.bpa.specs.Plans.{Table}
 use Rattle.bpa.specs.Norms.{norms, Good}
 use Rattle.bpa.proofs.Norm.NormStable.{norms-length}
-use Rattle.bpa.proofs.Norm.GoodTable.{finite-good}
 use Rattle.rules.specs.Places.{any-zero, any-above, table-refusal, table-of}
 use Rattle.rules.specs.Lists.{GoodList}
-use Rattle.rules.proofs.ListLaws.{table-closed}
+use Rattle.rules.proofs.TableRefusals.{passed-small}
 use Rattle.norm.specs.NormArrays.{NormArray, ExactNorms}
 use Rattle.norm.proofs.Agreement.{sum-agree}
 use Rattle.refusal.specs.Refusals.{norms-refusal}
@@ -39,28 +38,6 @@ unfolding any-above
 any-above-cap [] = refl
 any-above-cap (v ∷ vs) = ap₂ _||_ (above-cap v (decLt 512 v)) (any-above-cap vs)
 
--- what the tests say of each norm
-or-none : (a b : Bool) → (a || b) ≡ false → (a ≡ false) × (b ≡ false)
-or-none true b h = absurd (true≢false h)
-or-none false b h = (refl, h)
-
-none-zero : (ns : List ℕ) → any-zero ns ≡ false → (j : ℕ) → j < length ns → 0 < getD ns j 0
-unfolding any-zero
-none-zero [] h j l = absurd (omega arith)
-none-zero (v ∷ vs) h zero l = let d = eqb-false v 0 (or-none (eqb v 0) (any-zero vs) h .0) in omega arith
-none-zero (v ∷ vs) h (suc j) l = none-zero vs (or-none (eqb v 0) (any-zero vs) h .1) j (omega arith)
-
-none-above : (m : ℕ) (ns : List ℕ) → any-above m ns ≡ false → (j : ℕ) → getD ns j 0 ≤ m
-unfolding any-above
-none-above m [] h j = omega arith
-none-above m (v ∷ vs) h zero = ltb-false m v (or-none (ltb m v) (any-above m vs) h .0)
-none-above m (v ∷ vs) h (suc j) = none-above m vs (or-none (ltb m v) (any-above m vs) h .1) j
-
-no-refusal : (a b : Bool) (r : ℕ) → r ≡ cond a 6 (cond b 7 0) → r ≡ 0 → (a ≡ false) × (b ≡ false)
-no-refusal true b r e h = absurd (omega arith)
-no-refusal false true r e h = absurd (omega arith)
-no-refusal false false r e h = (refl, refl)
-
 module _ (n : ℕ) (rs : List ℕ) (good : GoodList n rs) (a : List ℕ) (is : NormArray (table-of n rs) a) where
   length-norms : length (norms (table-of n rs)) ≡ n
   unfolding table-of
@@ -83,12 +60,8 @@ module _ (n : ℕ) (rs : List ℕ) (good : GoodList n rs) (a : List ℕ) (is : N
       ∙ ap₂ (λ (x y : Bool). cond x 6 (cond y 7 0)) (any-zero-cap (norms (table-of n rs))) (any-above-cap (norms (table-of n rs)))
 
   module _ (passed : table-refusal (table-of n rs) ≡ 0) where
-    neither : (any-zero (norms (table-of n rs)) ≡ false) × (any-above 512 (norms (table-of n rs)) ≡ false)
-    unfolding table-refusal
-    neither = no-refusal (any-zero (norms (table-of n rs))) (any-above 512 (norms (table-of n rs))) 0 (sym passed) refl
-
     small : (j : ℕ) → getD (norms (table-of n rs)) j 0 ≤ 512
-    small = none-above 512 (norms (table-of n rs)) (neither .1)
+    small = passed-small (table-of n rs) passed
 
     -- the array holds the norms
     pub exact-norms : ExactNorms (table-of n rs) a
@@ -97,13 +70,6 @@ module _ (n : ℕ) (rs : List ℕ) (good : GoodList n rs) (a : List ℕ) (is : N
       at = λ j. is .at j ∙ omega (arith, small j);
       few = λ j. omega (arith, is .at j, small j);
     }
-
-    -- AN ACCEPTED TABLE IS GOOD
-    pub accepted-good : Good (table-of n rs) (norms (table-of n rs))
-    unfolding table-of
-    accepted-good =
-        finite-good (table-of n rs) (table-closed n rs good)
-        (λ j h. none-zero (norms (table-of n rs)) (neither .0) j (omega (arith, length-norms)))
 
 -- good norms, read from the array
 pub array-good : (t : Table) (a : List ℕ) → Good t (norms t) → ExactNorms t a → Good t a

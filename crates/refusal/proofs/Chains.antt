@@ -8,7 +8,7 @@ use borrow.Author.Tests.{eq-eqb, ne-eqb, le-leb, lt-leb}
 use Rattle.bpa.specs.Plans.{all-below}
 use Rattle.bpa.specs.Norms.{sum-of}
 use Rattle.rules.specs.Places.{or-else}
-use Rattle.rules.proofs.JobLaws.{below-more}
+use Rattle.bpa.proofs.Basics.JobsBelow.{below-more}
 use Rattle.norm.specs.Plans.{jobs-refusal, sum-refusal}
 
 -- a refusal, then any other

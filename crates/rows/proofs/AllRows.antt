@@ -1,7 +1,7 @@
--- The replacement in every row, row by row: each row lies in a block of its own. Assumes nothing.
+-- The replacement in every row, visited row by visited row: each row lies in a block of its own. Assumes nothing.
 use mathlib.Core.Path.{_≡_, refl, sym, ap, _∙_, subst}
 use mathlib.Core.List.{List, _++_}
-use mathlib.Core.Logic.{⊎-elim}
+use mathlib.Core.Logic.{_⊎_, inl, inr, ⊎-elim}
 use Prim.Native.Nat.{ℕ, _+_, _*_, _-_, _≤_, _<_}
 use native.Mathlib.Nat.{eq-or-lt-of-le}
 use native.Mathlib.Decide.{ℕ-discrete, decLt}
@@ -11,9 +11,10 @@ use lib.Seq.{take-take, drop-drop, take-at, drop-at, length-take-le, getD-set-sa
 use borrow.Rule.Slice.PartMut.{putMid, postOf, take-put, drop-put, same-len-mid, mid-len}
 use Rattle.bpa.specs.Method.{replace}
 use Rattle.rows.specs.Region.{row, Within}
-use Rattle.rows.specs.Replacing.{occurrences, Replaceable, Begins, replaced, AllReplaceable, NewRows}
-use Rattle.rows.proofs.Parts.{part}
+use Rattle.rows.specs.Replacing.{occurrences, Replaceable, Begins, replaced, AllReplaceable, Visits, NewRows}
+use Rattle.area.proofs.Parts.{part}
 use Rattle.rows.proofs.Occurrences.{replace-none, length-replace}
+use Rattle.rows.proofs.Among.{Among, Missing, among}
 
 -- the part of the region that belongs to a job
 abbrev pub block : (region : List ℕ) → (j : ℕ) → List ℕ
@@ -83,46 +84,73 @@ module _ (region new : List ℕ) (j : ℕ) (l : j < 24) (size : length region �
       go (yes h) = written-lower i h
       go (no h) = written-higher i (omega arith)
 
--- the rows below j are replaced, the others as they were
-pub record Midway (jobs : ℕ) (lens₀ region₀ : List ℕ) (h : ℕ) (by lens region : List ℕ) (j : ℕ) : Type 0 where
+-- the rows of the first k jobs visited are replaced, the others as they were
+pub record Midway (jobs : ℕ) (lens₀ region₀ : List ℕ) (h : ℕ) (visited by lens region : List ℕ) (k : ℕ) : Type 0 where
   pub within : Within jobs lens region
-  pub done : (i : ℕ) → i < j → i < jobs → row lens region i ≡ replaced h by (row lens₀ region₀) i
-  pub rest : (i : ℕ) → j ≤ i → i < jobs → row lens region i ≡ row lens₀ region₀ i
+  pub upto : k ≤ length visited
+  pub done : (i : ℕ) → i < k → row lens region (getD visited i 0) ≡ replaced h by (row lens₀ region₀) (getD visited i 0)
+  pub rest : (j : ℕ) → j < jobs → Missing visited k j → row lens region j ≡ row lens₀ region₀ j
 
-module _ {jobs : ℕ} {lens₀ region₀ : List ℕ} {h : ℕ} {by : List ℕ} (a : AllReplaceable jobs lens₀ region₀ h by) where
-  pub begin-rows : Midway jobs lens₀ region₀ h by lens₀ region₀ 0
-  begin-rows = record { within = a .within; done = λ i l k. absurd (omega arith); rest = λ i l k. refl }
+module _ {jobs : ℕ} {lens₀ region₀ : List ℕ} {h : ℕ} {visited by : List ℕ} (a : AllReplaceable jobs lens₀ region₀ h by)
+    (v : Visits jobs lens₀ region₀ h visited) where
+  pub begin-rows : Midway jobs lens₀ region₀ h visited by lens₀ region₀ 0
+  begin-rows = record {
+    within = a .within;
+    upto = omega arith;
+    done = λ i l. absurd (omega arith);
+    rest = λ j l d. refl;
+  }
 
-  pub end-rows : {lens region : List ℕ} {j : ℕ} → Midway jobs lens₀ region₀ h by lens region j → jobs ≤ j →
+  pub end-rows : {lens region : List ℕ} {k : ℕ} → Midway jobs lens₀ region₀ h visited by lens region k → length visited ≤ k →
       NewRows jobs lens region (replaced h by (row lens₀ region₀))
-  end-rows m l = record { within = m .within; are = λ i k. m .done i (omega arith) k }
+  unfolding replaced
+  end-rows {lens} {region} {k} m l = record { within = m .within; are = λ j b. go j b (among visited k j) }
+    where
+      go : (j : ℕ) → j < jobs → Among visited k j ⊎ Missing visited k j → row lens region j ≡ replace h by (row lens₀ region₀ j)
+      go j b (inl f) =
+          subst (λ (j : ℕ). row lens region j ≡ replace h by (row lens₀ region₀ j)) (f .is) (m .done (f .place) (f .before))
+      go j b (inr d) =
+          m .rest j b d
+          ∙ sym (replace-none h by (row lens₀ region₀ j) (v .others j b (λ i n. d i (omega arith))))
 
-  module _ {lens region : List ℕ} {j : ℕ} (m : Midway jobs lens₀ region₀ h by lens region j) (l : j < jobs) where
-    short : getD lens j 0 ≤ 512
-    short = m .within .short j l
+  module _ {lens region : List ℕ} {k : ℕ} (m : Midway jobs lens₀ region₀ h visited by lens region k) (l : k < length visited) where
+    abbrev j : ℕ
+    j = getD visited k 0
 
-    below : j < 24
-    below = omega (arith, m .within .few)
+    job : j < jobs
+    job = v .below k l
+
+    pub short : getD lens j 0 ≤ 512
+    short = m .within .short j job
+
+    pub below : j < 24
+    below = omega (arith, job, m .within .few)
+
+    -- the row of the job visited now is as it was
+    old : row lens region j ≡ row lens₀ region₀ j
+    old = m .rest j job (λ i n. v .distinct i k n l)
 
     -- a row without the job stays
     pub pass-row : occurrences h (lent lens region j) ≡ 0 →
-        Midway jobs lens₀ region₀ h by lens region (j + 1)
+        Midway jobs lens₀ region₀ h visited by lens region (k + 1)
     unfolding replaced
     pass-row e = record {
       within = m .within;
-      done = λ i k n. ⊎-elim
-          (λ (s : i ≡ j). subst (λ (i : ℕ). row lens region i ≡ replace h by (row lens₀ region₀ i)) (sym s) here)
-          (λ (s : i < j). m .done i s n) (eq-or-lt-of-le (omega arith));
-      rest = λ i k n. m .rest i (omega arith) n;
+      upto = omega arith;
+      done = λ i n. ⊎-elim
+          (λ (s : i ≡ k).
+          subst (λ (i : ℕ). row lens region (getD visited i 0) ≡ replace h by (row lens₀ region₀ (getD visited i 0))) (sym s) here)
+          (λ (s : i < k). m .done i s) (eq-or-lt-of-le (omega arith));
+      rest = λ i b d. m .rest i b (λ z n. d z (omega arith));
     }
       where
         here : row lens region j ≡ replace h by (row lens₀ region₀ j)
         here =
             sym (replace-none h by (row lens region j) (ap (occurrences h) (sym (row-part lens region j)) ∙ e))
-            ∙ ap (replace h by) (m .rest j (omega arith) l)
+            ∙ ap (replace h by) old
 
     now-row : take (getD lens j 0) (block region j) ≡ row lens₀ region₀ j
-    now-row = sym (row-block lens region j short) ∙ m .rest j (omega arith) l
+    now-row = sym (row-block lens region j short) ∙ old
 
     pub can-replace : {count : ℕ} → count ≡ occurrences h (lent lens region j) →
         Replaceable (block region j) (getD lens j 0) count h by
@@ -134,7 +162,7 @@ module _ {jobs : ℕ} {lens₀ region₀ : List ℕ} {h : ℕ} {by : List ℕ} (
       room = omega (
         arith,
         ap (λ (r : List ℕ). length (replace h by r)) now-row,
-        a .room j l,
+        a .room j job,
         length-block region j below (m .within .size),
       );
     }
@@ -143,7 +171,7 @@ module _ {jobs : ℕ} {lens₀ region₀ : List ℕ} {h : ℕ} {by : List ℕ} (
         (b : Begins new n (replace h by (take (getD lens j 0) (block region j)))) where
       pub new-length : n ≤ 512
       unfolding replaced
-      new-length = omega (arith, b .count, ap (λ (r : List ℕ). length (replace h by r)) now-row, a .room j l)
+      new-length = omega (arith, b .count, ap (λ (r : List ℕ). length (replace h by r)) now-row, a .room j job)
 
       whole : length new ≡ 512
       whole = size ∙ length-block region j below (m .within .size)
@@ -155,7 +183,7 @@ module _ {jobs : ℕ} {lens₀ region₀ : List ℕ} {h : ℕ} {by : List ℕ} (
             b .count,
             length-replace h by (a .some) (take (getD lens j 0) (block region j)),
             length-take-le (getD lens j 0) (block region j) (omega (arith, short, size, whole)),
-            m .within .some j l,
+            m .within .some j job,
           )
 
       len-here : getD (set lens j n) j 0 ≡ n
@@ -195,14 +223,19 @@ module _ {jobs : ℕ} {lens₀ region₀ : List ℕ} {h : ℕ} {by : List ℕ} (
               go (yes e) = subst P (sym (ap (λ (z : ℕ). getD (set lens j n) z 0) e ∙ len-here)) p
               go (no d) = subst P (sym (len-other i d)) q
 
-      pub next-row : Midway jobs lens₀ region₀ h by (set lens j n) (putMid (512 * j) (512 * j + 512 - 512 * j) region new) (j + 1)
+      pub next-row : Midway jobs lens₀ region₀ h visited by (set lens j n)
+          (putMid (512 * j) (512 * j + 512 - 512 * j) region new) (k + 1)
       unfolding replaced
       next-row = record {
         within = within-new;
-        done = λ i k v. ⊎-elim
-            (λ (s : i ≡ j).
-            subst (λ (i : ℕ). row (set lens j n) (written region new j below (m .within .size) whole) i ≡ replace h by (row lens₀ region₀ i))
-            (sym s) row-here)
-            (λ (s : i < j). row-other i v (omega arith) ∙ m .done i s v) (eq-or-lt-of-le (omega arith));
-        rest = λ i k v. row-other i v (omega arith) ∙ m .rest i (omega arith) v;
+        upto = omega arith;
+        done = λ i z. ⊎-elim
+            (λ (s : i ≡ k).
+            subst
+            (λ (i : ℕ). row (set lens j n) (written region new j below (m .within .size) whole) (getD visited i 0)
+            ≡ replace h by (row lens₀ region₀ (getD visited i 0))) (sym s) row-here)
+            (λ (s : i < k).
+            row-other (getD visited i 0) (v .below i (omega arith)) (v .distinct i k s l) ∙ m .done i s)
+            (eq-or-lt-of-le (omega arith));
+        rest = λ i b d. row-other i b (λ e. d k (omega arith) (sym e)) ∙ m .rest i b (λ z n. d z (omega arith));
       }

@@ -11,7 +11,8 @@ use Rattle.bpa.specs.Plans.{all-below}
 use Rattle.bpa.specs.Method.{Rows, expand, first-difference, equal, ends, differ}
 use Rattle.rows.specs.Region.{row, Within}
 use Rattle.rows.proofs.Heads.{heads-equal, heads-differ, both-end, left-ends, right-ends}
-use Rattle.rows.proofs.Parts.{below-at, expand-end, row-inside, enter, enter-cons}
+use Rattle.bpa.proofs.Basics.JobsBelow.{below-at}
+use Rattle.rows.proofs.Parts.{expand-end, row-inside, enter, enter-cons}
 
 -- what is left of the right plan: the rest of a row and the expansion behind it
 abbrev pub right-left : (e : Rows) (region q : List ℕ) (t at end : ℕ) → List ℕ

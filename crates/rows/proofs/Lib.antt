@@ -2,10 +2,10 @@
 pub mod Heads
 pub mod Parts
 pub mod Cursors
-pub mod Copies
 pub mod Occurrences
 pub mod Rewriting
+pub mod Among
 pub mod AllRows
-pub mod Expanding
+pub mod WrittenPlans
 pub mod Singles
 pub mod Growing

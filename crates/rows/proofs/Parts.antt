@@ -2,24 +2,16 @@
 use mathlib.Core.Path.{_≡_}
 use mathlib.Core.Bool.{true}
 use mathlib.Core.List.{List, [], _∷_, _++_}
-use Prim.Native.Nat.{ℕ, zero, suc, _+_, _*_, _≤_, _<_}
-use native.Mathlib.Nat.{zero-add, suc-add}
+use Prim.Native.Nat.{ℕ, suc, _+_, _*_, _≤_, _<_}
 use native.Mathlib.Numerals.{add-one}
 use native.Mathlib.Omega.{arith}
-use lib.ListN.{length, getD, take, drop, drop-of-length-le}
-use lib.Seq.{take-nil, drop-cons, slice, slice-cons}
-use lib.Dec.{ltb}
-use borrow.Author.Tests.{ltb-true}
+use lib.ListN.{length, getD, drop, drop-of-length-le}
+use lib.Seq.{drop-cons, slice, slice-cons}
+use Rattle.area.proofs.Parts.{part}
 use Rattle.bpa.specs.Plans.{all-below}
 use Rattle.bpa.specs.Method.{Rows, expand}
-use Rattle.bpa.proofs.Basics.Plans.{and-left, and-right}
+use Rattle.bpa.proofs.Basics.JobsBelow.{below-at}
 use Rattle.rows.specs.Region.{row, Within}
-
-pub below-at : (n : ℕ) (p : List ℕ) (i : ℕ) → all-below n p ≡ true → i < length p → getD p i 0 < n
-unfolding all-below
-below-at n [] i h l = absurd (omega arith)
-below-at n (x ∷ p) zero h l = ltb-true x n (and-left (ltb x n) (all-below n p) h)
-below-at n (x ∷ p) (suc i) h l = below-at n p i (and-right (ltb x n) (all-below n p) h) (omega arith)
 
 pub expand-at : (e : Rows) (p : List ℕ) (i : ℕ) → i < length p →
     expand e (drop i p) ≡ e (getD p i 0) ++ expand e (drop (i + 1) p)
@@ -29,11 +21,6 @@ expand-at e p i l = rw (drop-cons p i 0 l, add-one)
 pub expand-end : (e : Rows) (p : List ℕ) (i : ℕ) → length p ≤ i → expand e (drop i p) ≡ []
 unfolding expand
 expand-end e p i l = rw (drop-of-length-le p l)
-
-pub part : (a c : ℕ) (l : List ℕ) → take c (drop a l) ≡ slice a (a + c) l
-part zero c l = rw (zero-add c)
-part (suc a) c [] = rw (suc-add a c) (take-nil c)
-part (suc a) c (x ∷ l) = rw (suc-add a c) (part a c l)
 
 pub row-slice : (lens region : List ℕ) (j : ℕ) → row lens region j ≡ slice (512 * j) (512 * j + getD lens j 0) region
 unfolding row

@@ -7,8 +7,10 @@ use lib.ListN.{length, getD, take, drop, set, length-append, take-append-drop}
 use lib.Seq.{take-suc, take-take, drop-cons, getD-take, length-take-le, slice, slice-empty}
 use Rattle.bpa.specs.Method.{replace}
 use Rattle.bpa.proofs.Judge.Rows.{replace-append}
-use Rattle.rows.specs.Replacing.{overwritten, occurrences, Replaceable, Begins}
-use Rattle.rows.proofs.Copies.{length-overwritten, take-overwritten, slice-overwritten, set-overwritten}
+use Rattle.rows.specs.Replacing.{occurrences, Replaceable, Begins}
+use Rattle.area.specs.Areas.{put}
+use Rattle.area.proofs.Puts.{put-length, take-put, slice-put}
+use Rattle.area.proofs.PutLaws.{put-one}
 use Rattle.rows.proofs.Occurrences.{occurrences-here, occurrences-other, occurrences-none, occurrences-append, replace-here, replace-other, replace-none, length-replace}
 
 pub record Rewriting (h : ℕ) (by old : List ℕ) (len end : ℕ) (area : List ℕ) (left i out : ℕ) : Type 0 where
@@ -116,9 +118,9 @@ module _ {old : List ℕ} {len count h : ℕ} {by : List ℕ} (asks : Replaceabl
       fits : out′ + length w ≤ length area
       fits = omega (arith, reach r, r .size, room)
 
-      next : slice out′ (end-of len count by) (overwritten area out′ w) ≡ replace h by (drop i (take len old))
+      next : slice out′ (end-of len count by) (put out′ w area) ≡ replace h by (drop i (take len old))
       next =
-          slice-overwritten area out′ w fits (end-of len count by) (omega (arith, reach r)) (omega (arith, r .size, room))
+          slice-put out′ w area fits (end-of len count by) (omega (arith, reach r)) (omega (arith, r .size, room))
           ∙ ap (λ (n : ℕ). w ++ slice n (end-of len count by) area) (sym o)
           ∙ ap (λ (p : List ℕ). w ++ p) (r .done)
           ∙ ap (λ (p : List ℕ). p ++ replace h by (drop (suc i) (take len old))) is
@@ -127,13 +129,13 @@ module _ {old : List ℕ} {len count h : ℕ} {by : List ℕ} (asks : Replaceabl
           (sym (getD-take len old i 0 (r .within) ∙ same-job))
           ∙ ap (replace h by) (sym (drop-cons (take len old) i 0 (omega (arith, r .within, length-take-le len old (asks .inside)))))
 
-      pub rewrite-more : Rewriting h by old len (end-of len count by) (overwritten area out′ w) left′ i out′
+      pub rewrite-more : Rewriting h by old len (end-of len count by) (put out′ w area) left′ i out′
       rewrite-more = record {
         within = omega (arith, r .within);
-        size = length-overwritten area out′ w fits ∙ r .size;
+        size = put-length out′ w area fits ∙ r .size;
         counted = omega (arith, left-split);
         place = place′;
-        kept = take-overwritten area out′ w fits i ahead ∙ sym (take-take i (suc i) area (omega arith))
+        kept = take-put out′ w area fits i ahead ∙ sym (take-take i (suc i) area (omega arith))
             ∙ ap (take i) (r .kept) ∙ take-take i (suc i) old (omega arith);
         done = next;
       }
@@ -152,13 +154,13 @@ module _ {old : List ℕ} {len count h : ℕ} {by : List ℕ} (asks : Replaceabl
 
   pub turn-here : {area : List ℕ} {left i out : ℕ} → Rewriting h by old len (end-of len count by) area left i out → 0 < left →
       getD area (i - 1) 0 ≡ h →
-      Rewriting h by old len (end-of len count by) (overwritten area (out - length by) by) (left - 1) (i - 1) (out - length by)
+      Rewriting h by old len (end-of len count by) (put (out - length by) by area) (left - 1) (i - 1) (out - length by)
   turn-here {i = zero} r l e = absurd (omega (arith, r .counted, occurrences-none h))
   turn-here {area} {left} {i = suc i} {out} r l e =
       let k : getD area i 0 ≡ h = ap (λ (n : ℕ). getD area n 0) (pred-of i) ∙ e in
       let w : by ≡ replace h by (getD area i 0 ∷ []) = sym (replace-here h by (getD area i 0) k) in
       let m : occurrences h (getD area i 0 ∷ []) ≡ 1 = occurrences-here h (getD area i 0) [] k ∙ ap suc (occurrences-none h) in
-      subst (λ (n : ℕ). Rewriting h by old len (end-of len count by) (overwritten area (out - length by) by) (left - 1) n (out - length by))
+      subst (λ (n : ℕ). Rewriting h by old len (end-of len count by) (put (out - length by) by area) (left - 1) n (out - length by))
       (pred-of i)
       (rewrite-more area left i out r by (left - 1) (out - length by) w (omega arith)
       (omega (arith, room-here r l e)))
@@ -182,5 +184,5 @@ module _ {old : List ℕ} {len count h : ℕ} {by : List ℕ} (asks : Replaceabl
       let o : 1 ≤ out = room-other r l d in
       let b : out - 1 < length area = omega (arith, reach r, r .size, room) in
       subst (λ (n : ℕ). Rewriting h by old len (end-of len count by) (set area (out - 1) (getD area n 0)) left n (out - 1)) (pred-of i)
-      (subst (λ (a : List ℕ). Rewriting h by old len (end-of len count by) a left i (out - 1)) (sym (set-overwritten area (out - 1) x b))
+      (subst (λ (a : List ℕ). Rewriting h by old len (end-of len count by) a left i (out - 1)) (put-one (out - 1) x area b)
       (rewrite-more area left i out r (x ∷ []) left (out - 1) w (omega arith) (omega arith)))

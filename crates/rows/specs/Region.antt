@@ -16,3 +16,9 @@ pub record Within (jobs : ℕ) (lens region : List ℕ) : Type 0 where
   pub size : length region ≡ 12288
   pub some : (j : ℕ) → j < jobs → 1 ≤ getD lens j 0
   pub short : (j : ℕ) → j < jobs → getD lens j 0 ≤ 512
+
+-- the row of each job of a plan stands within the region
+pub record Readable (lens region plan : List ℕ) : Type 0 where
+  pub size : length region ≡ 12288
+  pub job : (i : ℕ) → i < length plan → getD plan i 0 < 24
+  pub short : (i : ℕ) → i < length plan → getD lens (getD plan i 0) 0 ≤ 512

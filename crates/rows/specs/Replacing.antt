@@ -1,17 +1,13 @@
 -- Copies within a slice, and the replacement of a job in one row and in all rows. Assumes nothing: these are definitions.
 use mathlib.Core.Path.{_≡_}
 use mathlib.Core.Bool.{true, cond}
-use mathlib.Core.List.{List, [], _∷_, _++_}
+use mathlib.Core.List.{List, [], _∷_}
 use Prim.Native.Nat.{ℕ, suc, _+_, _*_, _≤_, _<_}
 use lib.Dec.{eqb}
-use lib.ListN.{length, getD, take, drop}
+use lib.ListN.{length, getD, take}
 use Rattle.bpa.specs.Plans.{all-below}
 use Rattle.bpa.specs.Method.{Rows, expand, replace, grow}
 use Rattle.rows.specs.Region.{row, Within}
-
--- a list with its bytes from a place on overwritten by another's
-unfoldable pub overwritten : (list : List ℕ) → (at : ℕ) → (by : List ℕ) → List ℕ
-overwritten l at s = take at l ++ s ++ drop (at + length s) l
 
 unfoldable pub occurrences : (job : ℕ) → (row : List ℕ) → ℕ
 occurrences h [] = 0
@@ -37,6 +33,13 @@ pub record AllReplaceable (jobs : ℕ) (lens region : List ℕ) (job : ℕ) (by 
   pub within : Within jobs lens region
   pub some : 1 ≤ length by
   pub room : (j : ℕ) → j < jobs → length (replaced job by (row lens region) j) ≤ 512
+
+-- a list of jobs, each once, whose rows are the only ones that can hold a job
+pub record Visits (jobs : ℕ) (lens region : List ℕ) (job : ℕ) (visited : List ℕ) : Type 0 where
+  pub below : (i : ℕ) → i < length visited → getD visited i 0 < jobs
+  pub distinct : (i k : ℕ) → i < k → k < length visited → getD visited i 0 ≡ getD visited k 0 → ⊥
+  pub others : (j : ℕ) → j < jobs → ((i : ℕ) → i < length visited → getD visited i 0 ≡ j → ⊥) →
+      occurrences job (row lens region j) ≡ 0
 
 pub record NewRows (jobs : ℕ) (lens region : List ℕ) (new : Rows) : Type 0 where
   pub within : Within jobs lens region

@@ -1,4 +1,5 @@
 // Rows of jobs, 512 bytes for each of up to 24 jobs: the leftmost difference of two plans, and the replacement of a job in every row.
+pub mod expanding;
 pub mod replacing;
 
 ghost use mathlib.Core.Path.{_≡_};

@@ -7,19 +7,7 @@ ghost use lib.ListN.{length, take};
 ghost use Rattle.bpa.specs.Plans.{all-below};
 ghost use Rattle.bpa.specs.Method.{expand, replace};
 ghost use Rattle.rows.specs.Region.{row, Within};
-ghost use Rattle.rows.specs.Replacing.{overwritten, occurrences, Replaceable, Begins, replaced, AllReplaceable, NewRows, Singles, grown, Growable};
-
-// Copies a slice into another from a place on.
-pub fn copy_at(to: &mut [u8], at: usize, from: &[u8])
-    requires { ⌜ at + length (now from) ≤ length (now to) ⌝ }
-    ensures { λ _. ⌜ now (to .exit) ≡ overwritten (now (to .entry)) at (now (from .entry)) ⌝ }
-{
-    let mut k: usize = 0;
-    while k < from.len() {
-        to[at + k] = from[k];
-        k += 1;
-    }
-}
+ghost use Rattle.rows.specs.Replacing.{occurrences, Replaceable, Begins, replaced, AllReplaceable, NewRows, Singles, grown, Growable, Visits};
 
 // How often a job stands in a row.
 fn count(row: &[u8], job: u8) -> usize
@@ -35,19 +23,6 @@ fn count(row: &[u8], job: u8) -> usize
         }
     }
     n
-}
-
-// The same, at once for a row of one job, as most are.
-fn how_often(row: &[u8], job: u8) -> usize
-    ensures { λ r. ⌜ r ≡ occurrences job (now (row .entry)) ⌝ }
-{
-    if row.len() == 1 {
-        if row[0] == job {
-            return 1;
-        }
-        return 0;
-    }
-    count(row, job)
 }
 
 // Replaces a job that occurs `count` times among the first `len` bytes, from the last occurrence to the first, in place. It gives the
@@ -67,7 +42,7 @@ fn replace_row(area: &mut [u8], len: usize, count: usize, job: u8, by: &[u8]) ->
         if x == job {
             left -= 1;
             out -= by.len();
-            copy_at(area, out, by);
+            area::put(area, out, by);
         } else {
             out -= 1;
             area[out] = x;
@@ -76,19 +51,27 @@ fn replace_row(area: &mut [u8], len: usize, count: usize, job: u8, by: &[u8]) ->
     end
 }
 
-// Replaces a job in every row. Rows without it stay as they are.
-pub fn replace_all(jobs: usize, rows: &mut [u8], lens: &mut [u16; 24], job: u8, by: &[u8])
+// Replaces a job in every row. Only the rows of the jobs in `visited` can hold it: the others are not looked at.
+pub fn replace_all(
+    jobs: usize,
+    rows: &mut [u8],
+    lens: &mut [u16; 24],
+    visited: &[u8],
+    job: u8,
+    by: &[u8],
+)
     requires { ⌜ AllReplaceable jobs (now lens) (now rows) job (now by) ⌝ }
+    requires { ⌜ Visits jobs (now lens) (now rows) job (now visited) ⌝ }
     ensures { λ _. ⌜ NewRows jobs (now (lens .exit)) (now (rows .exit)) (replaced job (now (by .entry)) (row (now (lens .entry)) (now (rows .entry)))) ⌝ }
 {
-    let mut j: usize = 0;
-    while j < jobs {
-        let i = j;
-        j += 1;
+    let mut k: usize = 0;
+    while k < visited.len() {
+        let i = visited[k] as usize;
+        k += 1;
         let start = 512 * i;
         let len = lens[i] as usize;
         let end = start + len;
-        let times = how_often(&rows[start..end], job);
+        let times = count(&rows[start..end], job);
         if times == 0 {
             continue;
         }
@@ -96,35 +79,6 @@ pub fn replace_all(jobs: usize, rows: &mut [u8], lens: &mut [u16; 24], job: u8, 
         let next = replace_row(&mut rows[start..full], len, times, job, by);
         lens[i] = next as u16;
     }
-}
-
-// Writes a job and then the expansion of a plan. It gives the length of both.
-pub fn pair_row(
-    jobs: usize,
-    rows: &[u8],
-    lens: &[u16; 24],
-    first: u8,
-    plan: &[u8],
-    out: &mut [u8],
-) -> usize
-    requires { ⌜ Within jobs (now lens) (now rows) ⌝ }
-    requires { ⌜ all-below jobs (now plan) ≡ true ⌝ }
-    requires { ⌜ 1 + length (expand (row (now lens) (now rows)) (now plan)) ≤ length (now out) ⌝ }
-    ensures { λ r. ⌜ Begins (now (out .exit)) r (first ∷ expand (row (now (lens .entry)) (now (rows .entry))) (now (plan .entry))) ⌝ }
-{
-    out[0] = first;
-    let mut at: usize = 1;
-    let mut i: usize = 0;
-    while i < plan.len() {
-        let job = plan[i] as usize;
-        i += 1;
-        let start = 512 * job;
-        let len = lens[job] as usize;
-        let end = start + len;
-        copy_at(out, at, &rows[start..end]);
-        at += len;
-    }
-    at
 }
 
 // Makes each job the first byte of its row.
@@ -145,14 +99,17 @@ pub fn grow(
     jobs: usize,
     rows: &mut [u8],
     lens: &mut [u16; 24],
+    visited: &[u8],
     greater: u8,
     lesser: u8,
     plan: &[u8],
 )
     requires { ⌜ Growable jobs (now lens) (now rows) greater lesser (now plan) ⌝ }
+    requires { ⌜ Visits jobs (now lens) (now rows) greater (now visited) ⌝ }
     ensures { λ _. ⌜ NewRows jobs (now (lens .exit)) (now (rows .exit)) (grown (now (plan .entry)) (row (now (lens .entry)) (now (rows .entry))) greater lesser) ⌝ }
 {
     let mut by = [0u8; 512];
-    let len = pair_row(jobs, rows, lens, lesser, plan, &mut by);
-    replace_all(jobs, rows, lens, greater, &by[0..len]);
+    by[0] = lesser;
+    let len = crate::expanding::write_rest(rows, lens, plan, &mut by);
+    replace_all(jobs, rows, lens, visited, greater, &by[0..len]);
 }

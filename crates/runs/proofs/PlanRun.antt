@@ -12,7 +12,7 @@ use borrow.Author.Tests.{lt-ltb, le-ltb}
 use Rattle.bpa.specs.Plans.{Table}
 use Rattle.bpa.specs.Norms.{sum-of, norms, norm}
 use Rattle.answer.specs.Answer.{signed}
-use Rattle.output.proofs.PutLaws.{put-front}
+use Rattle.area.proofs.PutLaws.{put-front}
 use Rattle.runs.specs.Runs.{Written, room-refusal, Run-output, ShortestRun}
 use Rattle.runs.proofs.RunLaws.{written-more, written-waiting}
 

@@ -7,8 +7,8 @@ use lib.ListN.{length, getD, set, length-append}
 use Rattle.bpa.specs.Plans.{Table, HasRule, Runs, empty-run, longer-run}
 use Rattle.bpa.specs.Norms.{sum-of, norms, norm}
 use Rattle.bpa.proofs.Basics.Plans.{sum-append, step-append}
-use Rattle.output.specs.Output.{put-at}
-use Rattle.output.proofs.PutLaws.{put-none, put-one, put-put}
+use Rattle.area.specs.Areas.{put}
+use Rattle.area.proofs.PutLaws.{put-none, put-one, put-put}
 use Rattle.runs.specs.Runs.{Written}
 
 module _ (t : Table) where
@@ -31,7 +31,7 @@ module _ (t : Table) where
     runs = runs-append (a .runs) (b .runs);
     falls = omega (arith, length-append (a .run) (b .run), a .falls, b .falls);
     next = omega (arith, length-append (a .run) (b .run), a .next, b .next);
-    output = b .output ∙ ap₂ (λ (x : ℕ) (l : List ℕ). put-at x (b .run) l) (a .next) (a .output) ∙ put-put i (a .run) (b .run) o h;
+    output = b .output ∙ ap₂ (λ (x : ℕ) (l : List ℕ). put x (b .run) l) (a .next) (a .output) ∙ put-put i (a .run) (b .run) o h;
   }
 
   pub written-waiting : (w p q : List ℕ) (i j : ℕ) (o o′ : List ℕ) → Written t p i o q j o′ → Written t (p ++ w) i o (q ++ w) j o′

@@ -12,8 +12,8 @@ use Rattle.bpa.specs.Norms.{sum-of, norms, norm}
 use Rattle.bpa.proofs.Basics.Plans.{over-one, over-head, over-tail, over-append, sum-one, sum-append, norm-positive, length-norm}
 use Rattle.rules.specs.Places.{rule-at, table-of}
 use Rattle.rules.proofs.ListLaws.{rule-of}
-use Rattle.output.specs.Output.{put-at}
-use Rattle.output.proofs.PutLaws.{drop-put}
+use Rattle.area.specs.Areas.{put}
+use Rattle.area.proofs.PutLaws.{drop-put}
 use Rattle.runs.specs.Runs.{Lowers, Chosen, Written}
 use Rattle.runs.proofs.RunLaws.{written-none, written-more, written-move}
 
@@ -120,7 +120,7 @@ module _ (n : ℕ) (rs low : List ℕ) (c : Chosen n rs low) (job at : ℕ) (sta
             )
 
         pub running-more : (a : ℕ) (stack′ : List ℕ) → a ≡ rule-at rs (getD low (getD stack top 0) 0) .move →
-            stack′ ≡ put-at (top + 1 - length w) w stack → length stack′ ≡ 512 →
+            stack′ ≡ put (top + 1 - length w) w stack → length stack′ ≡ 512 →
             Running (table-of n rs) job at start stack′ (top + 1 - length w) (to + 1) (set out to a)
         running-more a stack′ e f l =
             let t = table-of n rs in

@@ -11,7 +11,7 @@ use Rattle.bpa.specs.Norms.{sum-of, norms, norm, Good}
 use Rattle.rules.specs.Places.{rule-at, rule-count, table-of}
 use Rattle.rules.specs.Lists.{GoodList}
 use Rattle.answer.specs.Answer.{signed}
-use Rattle.output.specs.Output.{put-at}
+use Rattle.area.specs.Areas.{put}
 
 -- the rule at a place lowers the norm of a job by one
 pub record Lowers (rs ns : List ℕ) (j i : ℕ) : Type 0 where
@@ -32,7 +32,7 @@ pub record Written (t : Table) (from : List ℕ) (at : ℕ) (out : List ℕ) (to
   pub runs : Runs t from run to
   pub falls : length run + norm t to ≡ norm t from
   pub next : r ≡ at + length run
-  pub output : out′ ≡ put-at at run out
+  pub output : out′ ≡ put at run out
 
 -- refusal 10 of a run: the output area is shorter than the norm
 unfoldable pub room-refusal : Table → (plan out : List ℕ) → ℕ

@@ -71,7 +71,7 @@ fn run_job(
         to += 1;
         let after = rules::rule_after(rules, rule);
         top = top + 1 - after.len();
-        output::put(&mut stack, top, after);
+        area::put(&mut stack, top, after);
     }
     to
 }

@@ -1,5 +1,5 @@
 -- From a loaded table to what the engine asks, and from the engine's answers to the calls'. Assumes nothing.
-use mathlib.Core.Path.{_≡_, refl, sym, ap, _∙_, subst}
+use mathlib.Core.Path.{_≡_, sym, ap, _∙_, subst}
 use mathlib.Core.Bool.{Bool, true, false, cond}
 use mathlib.Core.List.{List}
 use Prim.Native.Nat.{ℕ, _*_, _≤_}
@@ -11,33 +11,22 @@ use Rattle.bpa.specs.Plans.{Table, all-below, over}
 use Rattle.bpa.specs.Norms.{sum-of}
 use Rattle.bpa.specs.Method.{same, prime-form}
 use Rattle.rules.specs.Places.{or-else, table-of}
-use Rattle.norm.specs.NormArrays.{GoodNorms}
 use Rattle.norm.specs.Plans.{jobs-refusal, sum-refusal, plans-refusal}
 use Rattle.refusal.proofs.Plans.{Accepted, array-norm, array-plans, accepted-plans}
 use Rattle.image.specs.Image.{image-refusal, table-in}
 use Rattle.answer.specs.Answer.{signed, Writes}
 use Rattle.answer.proofs.Writing.{first-refusal, next-refusal, writes-refused}
+use Rattle.table.proofs.LoadedTable.{same-table, good-norms}
 use Rattle.table.specs.Loading.{HoldsAccepted, Loads, LoadsWith}
 use Rattle.entries.specs.Entries.{one-refusal, two-refusal, one-if}
 
 module _ (bs : List ℕ) (jobs count : ℕ) (rules ns : List ℕ) (t : HoldsAccepted bs jobs count rules ns) where
-  same-table : table-of jobs (take (8 * count) rules) ≡ table-in bs
-  unfolding table-in
-  same-table = rw (t .jobs-are, t .rules-are) refl
-
   jobs-of-table : jobs ≡ table-in bs .jobs
   unfolding table-in table-of
   jobs-of-table = t .jobs-are
 
-  pub good-norms : GoodNorms jobs (take (8 * count) rules) ns
-  good-norms = record {
-    list = rw (t .jobs-are, t .rules-are) (t .list);
-    good = rw same-table (t .good);
-    exact = rw same-table (t .norms-are);
-  }
-
   pub few-jobs : jobs ≤ 24
-  few-jobs = good-norms .list .jobs
+  few-jobs = good-norms bs jobs count rules ns t .list .jobs
 
   within : (p : List ℕ) → over (table-in bs) p ≡ true → all-below jobs p ≡ true
   unfolding over

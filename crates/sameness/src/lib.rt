@@ -9,7 +9,7 @@ ghost use Rattle.entries.specs.Entries.{one-refusal, two-refusal, one-if, Compa
 
 // The answer of compare, worked out in the area.
 fn compare_in(image: &[u8], left: &[u8], right: &[u8], area: &mut [u8]) -> i32
-    requires { ⌜ 12288 ≤ length (now area) ⌝ }
+    requires { ⌜ 18336 ≤ length (now area) ⌝ }
     ensures { λ r. ⌜ r ≡ signed (two-refusal (now (image .entry)) (now (left .entry)) (now (right .entry))) (one-if (method.same (table-in (now (image .entry))) (now (left .entry)) (now (right .entry)))) ⌝ }
 {
     let table = table::load(image);
@@ -31,7 +31,7 @@ fn compare_in(image: &[u8], left: &[u8], right: &[u8], area: &mut [u8]) -> i32
         &norms,
         left,
         right,
-        &mut area[0..12288],
+        &mut area[0..18336],
     ) {
         return 1;
     }
@@ -52,7 +52,7 @@ pub fn compare(image: &[u8], left: &[u8], right: &[u8], space: &mut [u8]) -> i32
 
 // The prime form or the refusal, worked out in the area.
 fn form_in(image: &[u8], plan: &[u8], out: &mut [u8], area: &mut [u8]) -> i32
-    requires { ⌜ 12288 ≤ length (now area) ⌝ }
+    requires { ⌜ 18336 ≤ length (now area) ⌝ }
     ensures { λ r. ⌜ Writes (one-refusal (now (image .entry)) (now (plan .entry))) (method.prime-form (table-in (now (image .entry))) (now (plan .entry))) (now (out .entry)) r (now (out .exit)) ⌝ }
 {
     let table = table::load_with(image, plan);
@@ -64,7 +64,7 @@ fn form_in(image: &[u8], plan: &[u8], out: &mut [u8], area: &mut [u8]) -> i32
     let norms = table.norms;
     let rules = table.rules;
     let end = 8 * table.count;
-    engine::form(jobs, &rules[0..end], &norms, plan, out, &mut area[0..12288])
+    engine::form(jobs, &rules[0..end], &norms, plan, out, &mut area[0..18336])
 }
 
 // The prime form of a plan: as many bytes as it has jobs.

@@ -8,9 +8,11 @@ use native.Mathlib.Omega.{arith}
 use lib.ListN.{length, take}
 use Rattle.rules.specs.Places.{places-good, any-zero, any-above, rule-count, table-of, table-refusal}
 use Rattle.rules.specs.Lists.{GoodList}
+use Rattle.rules.proofs.ListLaws.{table-closed}
+use Rattle.rules.proofs.TableRefusals.{passed-good}
 use Rattle.norm.specs.NormArrays.{NormArray}
 use Rattle.refusal.specs.Refusals.{norms-refusal}
-use Rattle.refusal.proofs.Accepted.{array-refusal, exact-norms, accepted-good}
+use Rattle.refusal.proofs.Accepted.{array-refusal, exact-norms}
 use Rattle.refusal.proofs.Chains.{refused-first, passed-first}
 use Rattle.image.specs.Image.{blocks-in, each-block, length-good, sum-good, head-good, block-good, layout-refusal, image-refusal, image-jobs, image-places, table-in}
 use Rattle.image.specs.Reading.{HoldsTable}
@@ -93,7 +95,7 @@ module _ (bs : List ℕ) (passed : layout-refusal bs ≡ 0) where
             rules-are = h .holds;
             list = image-list;
             norms-are = exact-norms (image-jobs bs) (image-places bs) image-list ns array t;
-            good = accepted-good (image-jobs bs) (image-places bs) image-list ns array t;
+            good = passed-good (table-of (image-jobs bs) (image-places bs)) (table-closed (image-jobs bs) (image-places bs) image-list) t;
           };
     }
 

@@ -2,22 +2,23 @@
 use mathlib.Core.Path.{_≡_, refl, sym, ap, _∙_}
 use mathlib.Core.Bool.{Bool, true, false, cond}
 use mathlib.Core.List.{List, _++_}
-use Prim.Native.Nat.{ℕ, _+_, _-_, _≤_}
+use Prim.Native.Nat.{ℕ, _-_, _≤_}
 use native.Mathlib.Omega.{arith}
-use native.Mathlib.Nat.{sub-zero, zero-add}
+use native.Mathlib.Nat.{sub-zero}
 use lib.Dec.{ltb}
 use lib.ListN.{length, drop, replicate, length-replicate, length-append, length-drop}
 use lib.Seq.{drop-at}
 use borrow.Author.Tests.{ltb-false, le-ltb}
 use Rattle.area.specs.Areas.{put}
+use Rattle.area.proofs.PutLaws.{put-front}
 use Rattle.answer.specs.Answer.{space-size, with-space, space-after}
 
 -- zeros in the first k bytes
 first-zeros : (k : ℕ) (s : List ℕ) → put 0 (replicate (k - 0) 0) s ≡ replicate k 0 ++ drop k s
-unfolding put
 first-zeros k s =
-    ap (λ (n : ℕ). replicate n 0 ++ drop (0 + length (replicate {A = ℕ} n 0)) s) (sub-zero k)
-    ∙ ap (λ (n : ℕ). replicate k 0 ++ drop n s) (zero-add (length (replicate {A = ℕ} k 0)) ∙ length-replicate k 0)
+    put-front (replicate (k - 0) 0) s
+    ∙ ap (λ (n : ℕ). replicate n 0 ++ drop (length (replicate {A = ℕ} n 0)) s) (sub-zero k)
+    ∙ ap (λ (n : ℕ). replicate k 0 ++ drop n s) (length-replicate k 0)
 
 size : space-size ≡ 65536
 unfolding space-size

@@ -1,10 +1,10 @@
--- `first_base` meets its contract: byte by byte, only ordered pairs are held, and all of those with the same moves. Assumes nothing.
+-- `first_base` meets its contract: byte by byte, only ordered pairs are held, and all of those with the same steps. Assumes nothing.
 use mathlib.Core.Path.{sym, _∙_}
 use mathlib.Core.List.{List}
 use Prim.Native.Nat.{ℕ, _+_, _-_, _*_, _/_, _%_, _<_}
 use native.Mathlib.Omega.{arith}
 use Rattle.bpa.proofs.Basics.Cases.{never-both}
-use Rattle.bpa.proofs.Base.SameBase.{Same-moves}
+use Rattle.bpa.proofs.Base.SameBase.{Same-steps}
 use Rattle.rules.specs.Places.{table-of}
 use Rattle.base.specs.Held.{PairPlace}
 use Rattle.base.proofs.Firsts.{First, first-none, first-without, first-with, first-held}
@@ -40,7 +40,7 @@ module _ (c : tie.At-loop Inv-loop μ-loop) where
   few : c .loop .k < 24 * jobs → c .loop .k < 576
   few h = omega (arith, start .pre .0 .list .jobs)
 
-  skip : (PairPlace jobs ns (c .loop .k) → Same-moves (table-of jobs rs) (c .loop .k / 24) (c .loop .k % 24) → ⊥) →
+  skip : (PairPlace jobs ns (c .loop .k) → Same-steps (table-of jobs rs) ns (c .loop .k / 24) (c .loop .k % 24) → ⊥) →
       First jobs rs ns (c .loop .base) (c .loop .k + 1)
   skip d = first-without jobs rs ns (c .loop .base) (c .loop .k) (c .loop .inv) d
 
@@ -103,7 +103,7 @@ loop-again-4 c =
 returns : tie.Need-returns Inv-loop μ-loop
 returns c =
     let at = c .before in
-    first-held (jobs at) (rs at) (ns at) (at .loop .base) (at .loop .k) (start at .pre .0 .list .jobs) (c .loop-test .left) (at .loop .inv)
+    first-held (jobs at) (rs at) (ns at) (start at .pre .0 .good) (at .loop .base) (at .loop .k) (start at .pre .0 .list .jobs) (c .loop-test .left) (at .loop .inv)
 
 pub first-base-spec : {M : Type 1} → statement M
 first-base-spec =

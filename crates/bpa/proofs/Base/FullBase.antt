@@ -46,12 +46,12 @@ unfolding next-level
 level-rises t ns n = omega (arith, rounds-least n (most ns (t .rules)) (t .jobs))
 
 module _ (t : Table) (ns : List ℕ) (g : Good t ns) where
-  norm-bound : (j : ℕ) → j < t .jobs → getD ns j 0 ≤ suc (most ns (t .rules))
+  pub norm-bound : (j : ℕ) → j < t .jobs → getD ns j 0 ≤ suc (most ns (t .rules))
   norm-bound j h =
       let (a, w, r, e) = g .falls j h in
       omega (arith, most-bounds ns (t .rules) (record { job = j; move = a; after = w }) r)
 
-  step-bound : (j a : ℕ) (p : List ℕ) → Step t (j ∷ []) a p → sum-of ns p ≤ most ns (t .rules)
+  pub step-bound : (j a : ℕ) (p : List ℕ) → Step t (j ∷ []) a p → sum-of ns p ≤ most ns (t .rules)
   unfolding sum-of
   step-bound j a p (w, r, e) =
       omega (

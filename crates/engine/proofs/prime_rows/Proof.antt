@@ -1,7 +1,8 @@
 -- `engine::prime_rows` meets its contract. Assumes nothing.
-use mathlib.Core.Path.{_∙_}
+use native.Mathlib.Omega.{arith}
+use lib.ListN.{length-take}
 use borrow.Author.Needs.{needs}
-use Rattle.engine.proofs.Tables.{normed, ready, prime-rows-are}
+use Rattle.engine.proofs.Tables.{normed, ready, prime-rows-in}
 use Rattle.engine.proofs.prime_rows.Statement.{statement}
 use Rattle.engine.proofs.prime_rows.Tie as tie
 
@@ -21,11 +22,21 @@ final-base-requires c κs =
 order-requires : tie.Need-order-requires
 order-requires c κs = search needs
 
+sub-prime-table : tie.Need-sub-prime-table
+sub-prime-table c = search needs
+
+part-prime-table-start : tie.Need-part-prime-table-start
+part-prime-table-start c = search needs
+
+part-prime-table-end : tie.Need-part-prime-table-end
+part-prime-table-end c = search needs
+
 prime-table-requires : tie.Need-prime-table-requires
 prime-table-requires c κs =
-    let s = c .before .before .before .before .before .before .before .before .before .before .before .before .before .before .before .before .before in (
+    let s = c .before .before .before .before .before .before .before .before .before .before .before .before .before .before .before .before .before in
+    let b = c .before .before .before .before .before .before .before .before .final-base in (
       ready _ _ _ (s .pre .0) _ (c .before .before .before .before .before .before .before .before .before .before .before .before .lowering-rules .ensures),
-      (c .before .before .before .before .before .order .ensures .1, (s .pre .1 .0, c .before .before .before .before .before .before .before .before .final-base .kept .1 .1 .1 .1 .1 .0 ∙ s .pre .1 .1)),
+      (c .before .before .before .before .before .order .ensures .1, (s .pre .1 .0, simp length-take (omega (arith, b .kept .1 .1 .1 .1 .1 .0, s .pre .1 .1)))),
     )
 
 same-length : tie.Need-same-length
@@ -35,7 +46,7 @@ returns : tie.Need-returns
 returns c =
     let b = c .before .before .before .before .before .before .before .before .before .before .before in
     let s = b .before .before .before .before .before .before .before .before .before in
-    prime-rows-are _ _ _ (s .pre .0) (b .final-base .result) _ _ (b .final-base .ensures) (c .before .before .prime-table .ensures)
+    prime-rows-in _ _ _ (s .pre .0) (b .final-base .result) _ (b .final-base .last .1 .1 .1 .1 .1 .0) (c .before .before .prime-table .last .1 .1 .1 .1 .1 .1 .1 .0) (b .final-base .ensures) (c .before .before .prime-table .ensures)
 
 pub prime-rows-spec : {M : Type 1} → statement M
 prime-rows-spec =
@@ -45,6 +56,9 @@ prime-rows-spec =
     lowering-rules-requires
     final-base-requires
     order-requires
+    sub-prime-table
+    part-prime-table-start
+    part-prime-table-end
     prime-table-requires
     same-length
     returns)

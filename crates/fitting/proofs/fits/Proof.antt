@@ -1,5 +1,6 @@
 -- `fits` meets its contract: the candidate stands behind the right side, and the two sides are matched both ways. Assumes nothing.
 use mathlib.Core.Path.{refl, sym, ap, _∙_}
+use mathlib.Core.Bool.{true}
 use mathlib.Core.List.{List, []}
 use Prim.Native.Nat.{ℕ, _-_}
 use lib.ListN.{getD, drop}
@@ -10,6 +11,7 @@ use Rattle.bpa.proofs.Basics.Order.{precedes-le}
 use Rattle.prepare.specs.Prepared.{all-rules}
 use Rattle.matching.specs.Pairs.{by-base, Behind}
 use Rattle.matching.proofs.Buffers.{behind-kept}
+use Rattle.fitting.proofs.Knowing.{known-none, known-turned}
 use Rattle.fitting.proofs.Fitting.{pair-of, candidate-behind, fits-left, fits-not}
 use Rattle.fitting.proofs.fits.Statement.{statement}
 use Rattle.fitting.proofs.fits.Tie as tie
@@ -59,8 +61,13 @@ module _ (c : tie.After-candidate) where
 all-answered-requires : tie.Need-all-answered-requires
 all-answered-requires c κs =
     let d = c .before .before .before .before .before in
-    let pre = start d .pre in
-    (pre .0, (record { job = pre .1 .0 .greater; other-job = pre .1 .0 .lesser; faces = (pre .1 .0 .order, d .candidate .ensures .is) }, (behind d, pre .1 .1)))
+    let pre = start d .pre in (
+      pre .0,
+      (
+        record { job = pre .1 .0 .greater; other-job = pre .1 .0 .lesser; faces = (pre .1 .0 .order, d .candidate .ensures .is) },
+        (behind d, (known-none (start d .args .jobs) (rs d) (ns d) (start d .args .base .now) true (start d .args .y) (start d .args .x) (pre .0 .ready .list .few) (drop (d .candidate .result) (buffer d)), pre .1 .1)),
+      ),
+    )
 
 all-answered-requires-2 : tie.Need-all-answered-requires-2
 all-answered-requires-2 c κs =
@@ -73,8 +80,11 @@ all-answered-requires-2 c κs =
         (
           behind-kept (start d .args .jobs) (ns d) (d .candidate .result) (gap d) (buffer d) _ (left .ensures .told .kept) (behind d),
           (
-            left .ensures .remembered,
-            left .kept .1 .1 .1 .1 .1 .1 .1 .1 .1 .1 .1 .1 .1 .1 .1 .0 ∙ pre .1 .1 .1,
+            known-turned (start d .args .jobs) (rs d) (ns d) (start d .args .base .now) (start d .args .y) (start d .args .x) _ _ _ (left .ensures .told .kept .plan) (left .ensures .knows),
+            (
+              left .ensures .remembered,
+              left .kept .1 .1 .1 .1 .1 .1 .1 .1 .1 .1 .1 .1 .1 .1 .1 .0 ∙ pre .1 .1 .1,
+            ),
           ),
         ),
       ),

@@ -4,8 +4,8 @@ use Prim.Native.Nat.{ℕ, _+_, _-_, _≤_}
 use native.Mathlib.Omega.{arith}
 use borrow.Author.Needs.{needs}
 use Rattle.bpa.specs.Norms.{sum-of}
-use Rattle.rows.proofs.Parts.{below-at}
-use Rattle.form.proofs.Expanding.{sum-at, sum-end}
+use Rattle.bpa.proofs.Basics.JobsBelow.{below-at}
+use Rattle.form.proofs.Lengths.{sum-at, sum-end}
 use lib.ListN.{length, getD, drop}
 use Rattle.form.proofs.form_length.Statement.{statement}
 use Rattle.form.proofs.form_length.Tie as tie

@@ -10,8 +10,8 @@ add-end c = search needs
 put-two-requires : tie.Need-put-two-requires
 put-two-requires c κs = search needs
 
-put-bytes-requires : tie.Need-put-bytes-requires
-put-bytes-requires c κs = search needs
+put-requires : tie.Need-put-requires
+put-requires c κs = search needs
 
 put-zeros-requires : tie.Need-put-zeros-requires
 put-zeros-requires c κs = search needs
@@ -43,9 +43,9 @@ returns c =
     let start = counts .before .before .before .before in
     let args = start .args in
     fill (args .jobs) (args .k) (args .blocks) (args .rules .now) (args .block .now) (start .pre)
-    (counts .put-two .last .1 .1 .1 .0) (places .put-bytes .last .1 .1 .0) (zeros .put-zeros .last .1 .1 .0)
+    (counts .put-two .last .1 .1 .1 .0) (places .put .last .0) (zeros .put-zeros .last .1 .1 .0)
     (number .put-number .last .1 .1 .0) (blocks .put-number2 .last .1 .1 .0) (last .put-number3 .last .1 .1 .0) (sum .checksum .result)
-    (counts .put-two .ensures) (places .put-bytes .ensures) (zeros .put-zeros .ensures)
+    (counts .put-two .ensures) (places .put .ensures .output) (zeros .put-zeros .ensures)
     (number .put-number .ensures) (blocks .put-number2 .ensures) (sum .checksum .ensures .0) (last .put-number3 .ensures)
 
 pub fill-block-spec : {M : Type 1} → statement M
@@ -54,7 +54,7 @@ fill-block-spec =
     (tie.spec
     add-end
     put-two-requires
-    put-bytes-requires
+    put-requires
     put-zeros-requires
     put-number-requires
     put-number-requires-2

@@ -1,5 +1,8 @@
 -- `image_write::put_two` meets its contract. Assumes nothing.
-use mathlib.Core.List.{[], _∷_}
+use mathlib.Core.Path.{_∙_}
+use mathlib.Core.List.{[], _∷_, append-assoc}
+use Prim.Native.Nat.{_+_}
+use lib.ListN.{take, drop}
 use native.Mathlib.Numerals.{add-one}
 use lib.Seq.{sets-eq}
 use Rattle.area.specs.Areas.{put}
@@ -29,7 +32,9 @@ same-length c = search needs
 returns : tie.Need-returns
 unfolding put
 returns c =
-    rw add-one (sets-eq (c .args .first ∷ c .args .second ∷ []) (c .args .block .now) (c .args .at) (omega arith))
+    let new = c .args .first ∷ c .args .second ∷ [] in
+    let block = c .args .block .now in
+    rw add-one (sets-eq new block (c .args .at) (omega arith)) ∙ append-assoc (take (c .args .at) block) new (drop (c .args .at + 2) block)
 
 pub put-two-spec : {M : Type 1} → statement M
 put-two-spec =

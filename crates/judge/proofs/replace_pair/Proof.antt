@@ -18,16 +18,16 @@ part-grow-end c = search needs
 
 grow-requires : tie.Need-grow-requires
 grow-requires c κs =
-    let start = c .before .before .before .before .before .before .before .before in
-    pair-growable (start .pre .0) (start .pre .1 .1) (start .pre .1 .0) (whole-plan (c .before .before .before .before .candidate .ensures))
+    let start = c .before .before .before .before .before .before .before .before .before in
+    (pair-growable (start .pre .0) (start .pre .1 .1 .0) (start .pre .1 .0) (whole-plan (c .before .before .before .before .candidate .ensures)), start .pre .1 .1 .1)
 
 same-length : tie.Need-same-length
 same-length c = search needs
 
 returns : tie.Need-returns
 returns c =
-    let start = c .before .before .before .before .before .before .before .before .before .before .before in
-    pair-grown (start .pre .0) (start .pre .1 .1) (start .pre .1 .0) (whole-plan (c .before .before .before .before .before .before .before .candidate .ensures)) (c .before .before .grow .ensures)
+    let start = c .before .before .before .before .before .before .before .before .before .before .before .before in
+    pair-grown (start .pre .0) (start .pre .1 .1 .0) (start .pre .1 .0) (whole-plan (c .before .before .before .before .before .before .before .candidate .ensures)) (c .before .before .grow .ensures)
 
 pub replace-pair-spec : {M : Type 1} → statement M
 replace-pair-spec =

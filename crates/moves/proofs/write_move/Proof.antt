@@ -5,8 +5,8 @@ use Prim.Native.Nat.{ℕ, _+_, _<_}
 use native.Mathlib.Omega.{arith}
 use lib.ListN.{length, drop, set, length-set, length-append}
 use Rattle.rules.specs.Places.{rule-at}
-use Rattle.output.specs.Output.{put-at}
-use Rattle.output.proofs.PutLaws.{put-one, put-put, put-front}
+use Rattle.area.specs.Areas.{put}
+use Rattle.area.proofs.PutLaws.{put-one, put-put, put-front}
 use Rattle.moves.specs.Moves.{bytes-by}
 use Rattle.moves.proofs.write_move.Statement.{statement}
 use Rattle.moves.proofs.write_move.Tie as tie
@@ -16,12 +16,12 @@ unfolding bytes-by
 bytes-length rs i w = let e = length-append (rule-at rs i .after) w in omega arith
 
 -- a number, the jobs after it and the jobs that wait, one behind the other
-in-a-row : (m k : ℕ) (w waiting xs ys : List ℕ) → 0 < length xs → k ≡ 1 + length w → ys ≡ put-at 1 w (set xs 0 m) →
-    put-at k waiting ys ≡ (m ∷ (w ++ waiting)) ++ drop (length (m ∷ (w ++ waiting))) xs
+in-a-row : (m k : ℕ) (w waiting xs ys : List ℕ) → 0 < length xs → k ≡ 1 + length w → ys ≡ put 1 w (set xs 0 m) →
+    put k waiting ys ≡ (m ∷ (w ++ waiting)) ++ drop (length (m ∷ (w ++ waiting))) xs
 in-a-row m k w waiting xs ys h e f =
     let e′ : k ≡ 0 + length (m ∷ w) = omega arith in
-    ap₂ (λ (i : ℕ) (l : List ℕ). put-at i waiting l) e′
-    (f ∙ ap (put-at 1 w) (sym (put-one 0 m xs h)) ∙ put-put 0 (m ∷ []) w xs (omega arith))
+    ap₂ (λ (i : ℕ) (l : List ℕ). put i waiting l) e′
+    (f ∙ ap (put 1 w) (sym (put-one 0 m xs h)) ∙ put-put 0 (m ∷ []) w xs (omega arith))
     ∙ put-put 0 (m ∷ w) waiting xs (omega arith) ∙ put-front (m ∷ (w ++ waiting)) xs
 
 rule-move-requires : tie.Need-rule-move-requires

@@ -9,7 +9,7 @@ use lib.ListN.{length}
 use Rattle.bpa.specs.Plans.{all-below}
 use Rattle.rules.specs.Places.{rule-count}
 use Rattle.rules.proofs.ListLaws.{good-has-place, good-rule}
-use Rattle.rules.proofs.JobLaws.{below-more}
+use Rattle.bpa.proofs.Basics.JobsBelow.{below-more}
 use Rattle.norm.specs.NormArrays.{norm-by}
 use Rattle.norm.proofs.Pass.{Passed, passed-none, passed-more, passed-all}
 use Rattle.norm.proofs.round.Statement.{statement}

@@ -5,7 +5,7 @@ use Prim.Native.Nat.{_+_, _*_, _-_, _≤_, min}
 use native.Mathlib.Nat.{min-eq-left, min-eq-right}
 use native.Mathlib.Omega.{arith}
 use lib.ListN.{length}
-use Rattle.rules.proofs.JobLaws.{below-at}
+use Rattle.bpa.proofs.Basics.JobsBelow.{below-at}
 use Rattle.norm.proofs.RuleNorm.{Counted, counted-none, counted-unknown, counted-more, counted-all}
 use Rattle.norm.proofs.rule_norm.Statement.{statement}
 use Rattle.norm.proofs.rule_norm.Tie as tie

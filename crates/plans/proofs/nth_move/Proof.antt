@@ -5,7 +5,7 @@ use native.Mathlib.Omega.{arith}
 use borrow.Author.Needs.{needs}
 use mir.Syntax.{w32}
 use mir.ValLaws.{toZ-ofZ}
-use Rattle.plans.proofs.Loaded.{move-refused, list, plan-short, move-given}
+use Rattle.plans.proofs.Loaded.{move-refused, loaded, plan-short, move-given}
 use Rattle.plans.proofs.nth_move.Statement.{statement}
 use Rattle.plans.proofs.nth_move.Tie as tie
 
@@ -44,7 +44,7 @@ nth-move-requires c κs =
     let e = c .before .before .before .before .before in
     let l = e .before .load-with in
     let a = e .before .before .before .before .before .args in
-    rw sub-zero (list (a .image .now) (a .plan .now) (l .result .refusal) (l .result .jobs) (l .result .count) (l .result .rules) (l .result .norms) (l .ensures) (e .if1 .left), plan-short (a .image .now) (a .plan .now) (l .result .refusal) (l .result .jobs) (l .result .count) (l .result .rules) (l .result .norms) (l .ensures) (e .if1 .left))
+    rw sub-zero (loaded (a .image .now) (a .plan .now) (l .result .refusal) (l .result .jobs) (l .result .count) (l .result .rules) (l .result .norms) (l .ensures) (e .if1 .left) .list, plan-short (a .image .now) (a .plan .now) (l .result .refusal) (l .result .jobs) (l .result .count) (l .result .rules) (l .result .norms) (l .ensures) (e .if1 .left))
 
 same-length : tie.Need-same-length
 same-length c = search needs

@@ -7,9 +7,8 @@ use borrow.Author.Needs.{needs}
 use Rattle.area.specs.Areas.{put}
 use Rattle.bpa.specs.Method.{candidate, expand}
 use Rattle.rules.specs.Places.{table-of}
-use Rattle.rows.specs.Region.{row}
+use Rattle.rows.specs.Region.{row, Readable}
 use Rattle.order.proofs.OrderedJobs.{place-below}
-use Rattle.form.specs.Written.{Readable}
 use Rattle.judge.specs.Judging.{byte-base}
 use Rattle.prime_table.specs.Primes.{FirstHeld, PrimeRow}
 use Rattle.prime_table.proofs.NextRow.{ends-part, alone, pair-le, readable, room, behind-pair}

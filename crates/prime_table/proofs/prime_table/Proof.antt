@@ -43,20 +43,20 @@ prime-row-requires c κs =
     let v = c .before .before .before .before .before .before .loop in
     (s .pre .0, (record { inside = c .before .before .before .before .before .loop-test .taken; order = s .pre .1 .0 }, (v .inv .2, v .inv .1)))
 
-sub-put-bytes : tie.Need-sub-put-bytes Inv-loop μ-loop
-sub-put-bytes c = omega arith
+mul-put : tie.Need-mul-put Inv-loop μ-loop
+mul-put c = omega (arith, c .before .before .before .before .before .before .wide .ensures .1)
 
-part-put-bytes-start : tie.Need-part-put-bytes-start Inv-loop μ-loop
-part-put-bytes-start c = search needs
+sub-put : tie.Need-sub-put Inv-loop μ-loop
+sub-put c = omega arith
 
-part-put-bytes-end : tie.Need-part-put-bytes-end Inv-loop μ-loop
-part-put-bytes-end c = omega (arith, c .before .before .prime-row .ensures .size, c .before .before .prime-row .ensures .short)
+part-put-start : tie.Need-part-put-start Inv-loop μ-loop
+part-put-start c = search needs
 
-mul-put-bytes : tie.Need-mul-put-bytes Inv-loop μ-loop
-mul-put-bytes c = omega (arith, c .before .before .before .before .before .before .before .wide .ensures .1)
+part-put-end : tie.Need-part-put-end Inv-loop μ-loop
+part-put-end c = omega (arith, c .before .before .before .prime-row .ensures .size, c .before .before .before .prime-row .ensures .short)
 
-put-bytes-requires : tie.Need-put-bytes-requires Inv-loop μ-loop
-put-bytes-requires c κs =
+put-requires : tie.Need-put-requires Inv-loop μ-loop
+put-requires c κs =
     let s = c .before .before .before .before .before .before .before .before .before .before .before .before .before .before in
     let v = c .before .before .before .before .before .before .before .before .before .before .before .loop in
     let p = c .before .before .before .before .prime-row in
@@ -101,9 +101,9 @@ loop-again c =
     let t = table-of (a .jobs) (a .rules .now) in
     let b = byte-base (a .base .now) in
     let j = getD (a .ord .now) (v .i) 0 in
-    let region = c .before .before .put-bytes .last .1 .1 .0 in
+    let region = c .before .before .put .last .0 in
     let wrote : region ≡ put (512 * j) (take (p .result) area) (v .rows) =
-    c .before .before .put-bytes .ensures
+    c .before .before .put .ensures .output
     ∙ ap (λ (m : ℕ). put (512 * y .result) (take m area) (v .rows)) (sub-zero (p .result))
     ∙ ap (λ (q : ℕ). put (512 * q) (take (p .result) area) (v .rows)) (y .ensures .0) in (
       omega arith,
@@ -135,11 +135,11 @@ prime-table-spec =
     wide-requires
     slice-aggregate-prime-row
     prime-row-requires
-    sub-put-bytes
-    part-put-bytes-start
-    part-put-bytes-end
-    mul-put-bytes
-    put-bytes-requires
+    mul-put
+    sub-put
+    part-put-start
+    part-put-end
+    put-requires
     cast-lens
     mul-lens
     element-write-lens

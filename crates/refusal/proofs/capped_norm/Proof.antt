@@ -4,7 +4,7 @@ use Prim.Native.Nat.{_+_, _-_, _≤_}
 use native.Mathlib.Omega.{arith}
 use lib.ListN.{length, drop}
 use Rattle.bpa.specs.Norms.{sum-of}
-use Rattle.rules.proofs.JobLaws.{below-at}
+use Rattle.bpa.proofs.Basics.JobsBelow.{below-at}
 use Rattle.refusal.proofs.Rows.{sum-next, sum-end}
 use Rattle.refusal.proofs.capped_norm.Statement.{statement}
 use Rattle.refusal.proofs.capped_norm.Tie as tie

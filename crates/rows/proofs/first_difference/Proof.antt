@@ -6,7 +6,7 @@ use lib.ListN.{length, getD, drop}
 use Rattle.bpa.specs.Method.{expand}
 use Rattle.rows.specs.Region.{row}
 use Rattle.rows.specs.Answers.{meaning}
-use Rattle.rows.proofs.Parts.{below-at}
+use Rattle.bpa.proofs.Basics.JobsBelow.{below-at}
 use Rattle.rows.proofs.Cursors.{At, Between, at-first, enter-left, leave-left, enter-right, left-at-end, left-ends-first, plans-end, right-ends-first, places-differ, places-equal}
 use Rattle.rows.proofs.first_difference.Statement.{statement}
 use Rattle.rows.proofs.first_difference.Tie as tie

@@ -10,7 +10,7 @@ use Rattle.bpa.specs.Plans.{all-below}
 use Rattle.bpa.specs.Norms.{sum-of}
 use Rattle.rules.specs.Places.{rule-count}
 use Rattle.rules.proofs.ListLaws.{good-has-place, good-rule}
-use Rattle.rules.proofs.JobLaws as jobs
+use Rattle.bpa.proofs.Basics.JobsBelow as jobs
 use Rattle.runs.proofs.Choosing.{None-before, one-lowers}
 use Rattle.runs.proofs.lowering_rule.Statement.{statement}
 use Rattle.runs.proofs.lowering_rule.Tie as tie

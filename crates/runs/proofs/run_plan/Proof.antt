@@ -7,7 +7,7 @@ use lib.ListN.{length, getD, drop}
 use Rattle.bpa.specs.Plans.{over}
 use Rattle.bpa.specs.Norms.{norms}
 use Rattle.rules.specs.Places.{table-of}
-use Rattle.rules.proofs.JobLaws.{below-at}
+use Rattle.bpa.proofs.Basics.JobsBelow.{below-at}
 use Rattle.runs.specs.Runs.{Written}
 use Rattle.runs.proofs.RunLaws.{written-none}
 use Rattle.runs.proofs.PlanRun.{plan-end, plan-room, plan-more}

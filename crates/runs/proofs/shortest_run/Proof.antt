@@ -7,7 +7,7 @@ use mir.ValLaws.{toZ-ofZ}
 use Rattle.bpa.specs.Plans.{over}
 use Rattle.bpa.specs.Norms.{norm}
 use Rattle.rules.specs.Places.{table-of}
-use Rattle.rules.proofs.JobLaws.{below-more}
+use Rattle.bpa.proofs.Basics.JobsBelow.{below-more}
 use Rattle.refusal.proofs.Plans.{array-norm}
 use Rattle.runs.proofs.PlanRun.{too-short, whole-run}
 use Rattle.runs.proofs.shortest_run.Statement.{statement}

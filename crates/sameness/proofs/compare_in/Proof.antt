@@ -9,7 +9,8 @@ use mir.ValLaws.{toZ-ofZ}
 use lib.ListN.{length-take}
 use Rattle.table.specs.Loading.{HoldsAccepted}
 use Rattle.entries.specs.Entries.{one-if}
-use Rattle.sameness.proofs.Loaded.{good-norms, few-jobs, compare-refused, plans-most, plans-refused, left-within, right-within, compared-as}
+use Rattle.table.proofs.LoadedTable.{good-norms}
+use Rattle.sameness.proofs.Loaded.{few-jobs, compare-refused, plans-most, plans-refused, left-within, right-within, compared-as}
 use Rattle.sameness.proofs.compare_in.Statement.{statement}
 use Rattle.sameness.proofs.compare_in.Tie as tie
 

@@ -7,7 +7,8 @@ use mir.Syntax.{w32}
 use mir.ValLaws.{toZ-ofZ}
 use lib.ListN.{length-take}
 use Rattle.table.specs.Loading.{HoldsAccepted}
-use Rattle.sameness.proofs.Loaded.{good-norms, form-refused, plan-within, plan-small, form-given}
+use Rattle.table.proofs.LoadedTable.{good-norms}
+use Rattle.sameness.proofs.Loaded.{form-refused, plan-within, plan-small, form-given}
 use Rattle.sameness.proofs.form_in.Statement.{statement}
 use Rattle.sameness.proofs.form_in.Tie as tie
 

@@ -7,8 +7,8 @@ use native.Mathlib.Omega.{arith}
 use borrow.Author.Needs.{needs}
 use lib.ListN.{length, take}
 use lib.Seq.{take-all}
-use Rattle.output.specs.Output.{IsPut}
-use Rattle.output.proofs.PutLaws.{put-none}
+use Rattle.area.specs.Areas.{IsPut}
+use Rattle.area.proofs.PutLaws.{put-none}
 use Rattle.look.specs.Lines.{jobs-text}
 use Rattle.look.proofs.Puts.{put-both, put-as}
 use Rattle.look.proofs.Parts.{next-job}

@@ -40,8 +40,8 @@ sub-left c = omega arith
 sub-out : tie.Need-sub-out Inv-loop μ-loop
 sub-out c = room-here (c .before .before .before .before .before .before .pre) (c .before .before .before .loop .inv) (omega arith) (c .if1 .taken)
 
-copy-at-requires : tie.Need-copy-at-requires Inv-loop μ-loop
-copy-at-requires c κs =
+put-requires : tie.Need-put-requires Inv-loop μ-loop
+put-requires c κs =
     let p = c .before .before .before .before .before .before .before .pre in let i = c .before .before .before .before .loop .inv in
     omega (arith, i .size, reach p i, room p, room-here p i (omega arith) (c .before .if1 .taken))
 
@@ -55,7 +55,7 @@ loop-again c =
     let start = c .before .before .before .before .before .before .before .before .before .before in
     let a = start .args in let l = c .before .before .before .before .before .before .before .loop in
     subst (λ (m : List ℕ). Rewriting (a .job) (a .by .now) (a .area .now) (a .len) (end-of (a .len) (a .count) (a .by .now)) m (l .left - 1) (l .i - 1) (l .out - length (a .by .now)))
-    (sym (c .before .before .copy-at .ensures)) (turn-here (start .pre) (l .inv) (omega arith) (c .before .before .before .before .if1 .taken))
+    (sym (c .before .before .put .ensures .output)) (turn-here (start .pre) (l .inv) (omega arith) (c .before .before .before .before .if1 .taken))
 
 sub-out-2 : tie.Need-sub-out-2 Inv-loop μ-loop
 sub-out-2 c = room-other (c .before .before .before .before .before .before .pre) (c .before .before .before .loop .inv) (omega arith) (c .if1 .left)
@@ -93,7 +93,7 @@ replace-row-spec =
     slice-read-x
     sub-left
     sub-out
-    copy-at-requires
+    put-requires
     loop-less
     loop-again
     sub-out-2

@@ -1,4 +1,4 @@
--- `output::put` meets its contract. Assumes nothing.
+-- `area::put` meets its contract. Assumes nothing.
 use mathlib.Core.Path.{_≡_, ap, ap₂, _∙_}
 use mathlib.Core.List.{List, _++_, append-nil}
 use Prim.Native.Nat.{ℕ, _+_, _-_, _≤_}
@@ -6,14 +6,14 @@ use native.Mathlib.Omega.{arith}
 use borrow.Author.Needs.{needs}
 use lib.ListN.{length, take, drop, length-drop, drop-of-length-le}
 use lib.Seq.{take-all, take-length, drop-drop}
-use Rattle.output.specs.Output.{put-at}
-use Rattle.output.proofs.put.Statement.{statement}
-use Rattle.output.proofs.put.Tie as tie
+use Rattle.area.specs.Areas.{put}
+use Rattle.area.proofs.put.Statement.{statement}
+use Rattle.area.proofs.put.Tie as tie
 
 -- the end of the area from a place on, with bytes copied to its front
 copied : (i : ℕ) (bs xs ys : List ℕ) → ys ≡ take (length bs) bs ++ drop (length bs) (take (length xs - i) (drop i xs)) →
-    take i xs ++ (ys ++ drop (length xs - i) (drop i xs)) ≡ put-at i bs xs
-unfolding put-at
+    take i xs ++ (ys ++ drop (length xs - i) (drop i xs)) ≡ put i bs xs
+unfolding put
 copied i bs xs ys e =
     let h : length (drop i xs) ≤ length xs - i = omega (arith, length-drop i xs) in
     ap (λ (l : List ℕ). take i xs ++ l)

@@ -1,15 +1,16 @@
--- `form::write_expansion` meets its contract. Assumes nothing.
+-- `rows::expanding::write_expansion` meets its contract. Assumes nothing.
 use mathlib.Core.Path.{sym, ap, _∙_, subst}
 use mathlib.Core.List.{List}
 use Prim.Native.Nat.{ℕ, _+_, _-_, _<_}
 use native.Mathlib.Omega.{arith}
 use borrow.Author.Needs.{needs}
+use Rattle.area.specs.Areas.{put}
 use Rattle.rows.specs.Region.{row}
 use Rattle.rows.proofs.AllRows.{lent, row-part}
-use Rattle.form.proofs.Expanding.{Writing, writing-first, row-fits, writing-more, writing-last, job-small, row-short, row-room, row-long}
-use lib.ListN.{length, getD}
-use Rattle.form.proofs.write_expansion.Statement.{statement}
-use Rattle.form.proofs.write_expansion.Tie as tie
+use Rattle.rows.proofs.WrittenPlans.{Writing, writing-first, row-fits, writing-more, writing-last, job-small, row-short, row-room}
+use lib.ListN.{length}
+use Rattle.rows.proofs.expanding.write_expansion.Statement.{statement}
+use Rattle.rows.proofs.expanding.write_expansion.Tie as tie
 
 abbrev Inv-loop : tie.InvT-loop
 Inv-loop rows lens plan out₀ at end₀ i₀ out end i = Writing (row lens rows) plan out₀ at out end i
@@ -53,21 +54,21 @@ add-stop c =
     let a = s .args in
     omega (arith, row-short (a .lens .now) (a .rows .now) (a .plan .now) (s .pre .0) (v .i) (omega arith) (c .before .wide .result) (c .before .wide .ensures .0), c .before .wide .ensures .1)
 
-sub-put-bytes : tie.Need-sub-put-bytes Inv-loop μ-loop
-sub-put-bytes c = omega arith
+sub-put : tie.Need-sub-put Inv-loop μ-loop
+sub-put c = omega arith
 
-part-put-bytes-start : tie.Need-part-put-bytes-start Inv-loop μ-loop
-part-put-bytes-start c = search needs
+part-put-start : tie.Need-part-put-start Inv-loop μ-loop
+part-put-start c = search needs
 
-part-put-bytes-end : tie.Need-part-put-bytes-end Inv-loop μ-loop
-part-put-bytes-end c =
-    let v = c .before .before .before .before .loop in
-    let s = c .before .before .before .before .before .before .before .before in
+part-put-end : tie.Need-part-put-end Inv-loop μ-loop
+part-put-end c =
+    let v = c .before .before .before .before .before .loop in
+    let s = c .before .before .before .before .before .before .before .before .before in
     let a = s .args in
-    omega (arith, row-room (a .lens .now) (a .rows .now) (a .plan .now) (s .pre .0) (v .i) (omega arith) (c .before .wide .result) (c .before .wide .ensures .0))
+    omega (arith, row-room (a .lens .now) (a .rows .now) (a .plan .now) (s .pre .0) (v .i) (omega arith) (c .before .before .wide .result) (c .before .before .wide .ensures .0))
 
-put-bytes-requires : tie.Need-put-bytes-requires Inv-loop μ-loop
-put-bytes-requires c κs =
+put-requires : tie.Need-put-requires Inv-loop μ-loop
+put-requires c κs =
     let v = c .before .before .before .before .before .before .loop in
     let s = c .before .before .before .before .before .before .before .before .before .before in
     let a = s .args in
@@ -76,18 +77,6 @@ put-bytes-requires c κs =
     let h : v .i < length (a .plan .now) = omega (arith, c .before .before .before .before .before .loop-test .taken) in
     let l = lent (a .lens .now) (a .rows .now) (x .result) in
     row-fits (row (a .lens .now) (a .rows .now)) (a .plan .now) (a .out .now) (a .at) (s .pre .1) (v .out) (v .end) (v .i) (v .inv) h l is
-
-add-end : tie.Need-add-end Inv-loop μ-loop
-add-end c =
-    let v = c .before .before .before .before .before .before .before .before .before .loop in
-    let s = c .before .before .before .before .before .before .before .before .before .before .before .before .before in
-    let a = s .args in
-    let x = c .before .before .before .before .before .before .wide in
-    let is = row-part (a .lens .now) (a .rows .now) (x .result) ∙ ap (row (a .lens .now) (a .rows .now)) (x .ensures .0) in
-    let h : v .i < length (a .plan .now) = omega (arith, c .before .before .before .before .before .before .before .before .loop-test .taken) in
-    let l = lent (a .lens .now) (a .rows .now) (x .result) in
-    let n = ap length (row-part (a .lens .now) (a .rows .now) (x .result)) ∙ row-long (a .lens .now) (a .rows .now) (a .plan .now) (s .pre .0) (v .i) h (x .result) (x .ensures .0) in
-    omega (arith, n, v .inv .size, row-fits (row (a .lens .now) (a .rows .now)) (a .plan .now) (a .out .now) (a .at) (s .pre .1) (v .out) (v .end) (v .i) (v .inv) h l is)
 
 add-i : tie.Need-add-i Inv-loop μ-loop
 add-i c = omega arith
@@ -104,9 +93,10 @@ loop-again c =
     let is = row-part (a .lens .now) (a .rows .now) (x .result) ∙ ap (row (a .lens .now) (a .rows .now)) (x .ensures .0) in
     let h : v .i < length (a .plan .now) = omega (arith, c .before .before .before .before .before .before .before .before .loop-test .taken) in
     let l = lent (a .lens .now) (a .rows .now) (x .result) in
-    let n = ap length (row-part (a .lens .now) (a .rows .now) (x .result)) ∙ row-long (a .lens .now) (a .rows .now) (a .plan .now) (s .pre .0) (v .i) h (x .result) (x .ensures .0) in
-    subst (λ (o : List ℕ). Writing (row (a .lens .now) (a .rows .now)) (a .plan .now) (a .out .now) (a .at) o (v .end + getD (a .lens .now) (x .result) 0) (v .i + 1))
-    (sym (c .before .before .put-bytes .ensures)) (writing-more (row (a .lens .now) (a .rows .now)) (a .plan .now) (a .out .now) (a .at) (s .pre .1) (v .out) (v .end) (v .i) (v .inv) h l is (getD (a .lens .now) (x .result) 0) n)
+    let said = c .before .before .put in
+    subst (λ (o : List ℕ). Writing (row (a .lens .now) (a .rows .now)) (a .plan .now) (a .out .now) (a .at) o (said .result) (v .i + 1)) (sym (said .ensures .output))
+    (subst (λ (k : ℕ). Writing (row (a .lens .now) (a .rows .now)) (a .plan .now) (a .out .now) (a .at) (put (v .end) l (v .out)) k (v .i + 1)) (sym (said .ensures .next))
+    (writing-more (row (a .lens .now) (a .rows .now)) (a .plan .now) (a .out .now) (a .at) (s .pre .1) (v .out) (v .end) (v .i) (v .inv) h l is))
 
 same-length : tie.Need-same-length Inv-loop μ-loop
 same-length c = c .before .loop .inv .size
@@ -131,11 +121,10 @@ write-expansion-spec =
     element-copy-out-len
     cast-len
     add-stop
-    sub-put-bytes
-    part-put-bytes-start
-    part-put-bytes-end
-    put-bytes-requires
-    add-end
+    sub-put
+    part-put-start
+    part-put-end
+    put-requires
     add-i
     loop-less
     loop-again

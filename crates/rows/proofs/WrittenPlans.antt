@@ -1,21 +1,18 @@
--- The expansion of a plan written row by row, and its length by the lengths of rows. Assumes nothing.
+-- The expansion of a plan written row by row. Assumes nothing.
 use mathlib.Core.Path.{_≡_, refl, sym, ap, ap₂, _∙_}
 use mathlib.Core.Bool.{true}
-use mathlib.Core.List.{List, [], _∷_, _++_, append-assoc, append-nil}
-use Prim.Native.Nat.{ℕ, suc, _+_, _*_, _≤_, _<_}
-use native.Mathlib.Nat.{zero-add}
-use native.Mathlib.Numerals.{add-one}
+use mathlib.Core.List.{List, [], _++_, append-assoc, append-nil}
+use Prim.Native.Nat.{ℕ, _+_, _*_, _≤_, _<_}
 use native.Mathlib.Omega.{arith}
-use lib.ListN.{length, getD, take, drop, length-append, length-take, length-drop, drop-of-length-le, take-append-drop}
-use lib.Seq.{drop-drop, drop-cons}
+use lib.ListN.{length, getD, take, drop, length-append, length-take, length-drop, take-append-drop}
+use lib.Seq.{drop-drop}
 use Rattle.area.specs.Areas.{put}
-use Rattle.area.proofs.Puts.{put-front, put-behind, put-length}
+use Rattle.area.proofs.Puts.{put-up-to, put-behind, put-length}
 use Rattle.bpa.specs.Plans.{all-below}
-use Rattle.bpa.specs.Norms.{sum-of}
 use Rattle.bpa.specs.Method.{Rows, expand}
-use Rattle.rows.specs.Region.{row, Within}
-use Rattle.rows.proofs.Parts.{below-at, expand-at, expand-end}
-use Rattle.form.specs.Written.{Readable}
+use Rattle.bpa.proofs.Basics.JobsBelow.{below-at}
+use Rattle.rows.proofs.Parts.{expand-at, expand-end}
+use Rattle.rows.specs.Region.{row, Within, Readable}
 
 pub length-row : (lens region : List ℕ) (j : ℕ) → 512 * j + getD lens j 0 ≤ length region → length (row lens region j) ≡ getD lens j 0
 unfolding row
@@ -43,30 +40,6 @@ module _ (lens region plan : List ℕ) (r : Readable lens region plan) (i : ℕ)
   pub row-long : length (row lens region x) ≡ getD lens x 0
   row-long = length-row lens region x row-room
 
--- a plan's length, written out
-pub form-long : (lens region plan : List ℕ) → Readable lens region plan → length (expand (row lens region) plan) ≡ sum-of lens plan
-unfolding expand sum-of
-form-long lens region [] r = refl
-form-long lens region (j ∷ plan) r =
-    length-append (row lens region j) (expand (row lens region) plan)
-    ∙ rw (
-      row-long lens region (j ∷ plan) r 0 (omega arith) j refl,
-      form-long lens region plan (record { size = r .size; job = λ i h. r .job (suc i) (omega arith); short = λ i h. r .short (suc i) (omega arith) }),
-    )
-
-pub sum-at : (ns p : List ℕ) (i : ℕ) → i < length p → sum-of ns (drop i p) ≡ getD ns (getD p i 0) 0 + sum-of ns (drop (i + 1) p)
-unfolding sum-of
-sum-at ns p i h = rw (drop-cons p i 0 h, add-one)
-
-pub sum-end : (ns p : List ℕ) (i : ℕ) → length p ≤ i → sum-of ns (drop i p) ≡ 0
-unfolding sum-of
-sum-end ns p i h = rw (drop-of-length-le p h)
-
--- bytes that were put at the start
-pub put-first : (new area after : List ℕ) → after ≡ put 0 new area → after ≡ new ++ drop (length new) area
-unfolding put
-put-first new area after e = e ∙ ap (λ (n : ℕ). new ++ drop n area) (zero-add (length new))
-
 -- the rows of the jobs before i are written
 pub record Writing (e : Rows) (plan before : List ℕ) (at : ℕ) (after : List ℕ) (end i : ℕ) : Type 0 where
   pub inside : i ≤ length plan
@@ -92,27 +65,23 @@ module _ (e : Rows) (plan before : List ℕ) (at : ℕ) where
     pub row-fits : end + length lent ≤ length after
     row-fits = omega (arith, w .left, w .size, ap length split, length-append lent rest)
 
-    pub writing-more : (n : ℕ) → length lent ≡ n → Writing e plan before at (put end lent after) (end + n) (i + 1)
+    pub writing-more : Writing e plan before at (put end lent after) (end + length lent) (i + 1)
     unfolding rest
-    writing-more n s =
+    writing-more =
         let r = expand e (drop (i + 1) plan) in
-        let to : end + n ≡ end + length lent = omega arith in
         record {
           inside = omega arith;
           left = omega (arith, w .left, ap length split, length-append lent r);
           front =
-              ap (λ (k : ℕ). take k (put end lent after) ++ r) to
-              ∙ ap (λ (l : List ℕ). l ++ r) (put-front end lent after row-fits)
+              ap (λ (l : List ℕ). l ++ r) (put-up-to end lent after row-fits)
               ∙ append-assoc (take end after) lent r
               ∙ ap (λ (l : List ℕ). take end after ++ l) (sym split)
               ∙ w .front;
           behind =
-              ap (λ (k : ℕ). drop k (put end lent after)) to
-              ∙ put-behind end lent after row-fits
+              put-behind end lent after row-fits
               ∙ sym (drop-drop (length lent) end after)
               ∙ ap (drop (length lent)) (w .behind)
-              ∙ drop-drop (length lent) end before
-              ∙ ap (λ (k : ℕ). drop k before) (sym to);
+              ∙ drop-drop (length lent) end before;
           size = put-length end lent after row-fits ∙ w .size;
         }
 
@@ -123,5 +92,8 @@ module _ (e : Rows) (plan before : List ℕ) (at : ℕ) where
       let none : expand e (drop i plan) ≡ [] = expand-end e plan i h in
       let to : end ≡ at + length (expand e plan) = omega (arith, w .left, ap length none) in
       let front : take end after ≡ take at before ++ expand e plan =
-      sym (append-nil (take end after)) ∙ ap (λ (l : List ℕ). take end after ++ l) (sym none) ∙ w .front in
-      (to, sym (take-append-drop end after) ∙ ap₂ _++_ front (w .behind ∙ ap (λ (k : ℕ). drop k before) to))
+      sym (append-nil (take end after)) ∙ ap (λ (l : List ℕ). take end after ++ l) (sym none) ∙ w .front in (
+        to,
+        sym (take-append-drop end after) ∙ ap₂ _++_ front (w .behind ∙ ap (λ (k : ℕ). drop k before) to)
+            ∙ append-assoc (take at before) (expand e plan) (drop (at + length (expand e plan)) before),
+      )

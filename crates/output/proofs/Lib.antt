@@ -1,2 +1,0 @@
--- Laws of bytes put into an area.
-pub mod PutLaws

@@ -1,2 +1,0 @@
--- Bytes put into an area.
-pub mod Output

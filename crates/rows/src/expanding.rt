@@ -1,0 +1,42 @@
+// Plans written out by the rows of their jobs.
+use area::wide;
+ghost use mathlib.Core.Path.{_≡_};
+ghost use Prim.Native.Nat.{_+_, _≤_};
+ghost use lib.ListN.{length};
+ghost use Rattle.area.specs.Areas.{put};
+ghost use Rattle.bpa.specs.Method.{expand};
+ghost use Rattle.rows.specs.Region.{row, Readable};
+
+// The rows of a plan's jobs one behind the other, from a place on. It gives the place behind them.
+pub fn write_expansion(
+    rows: &[u8],
+    lens: &[u16; 24],
+    plan: &[u8],
+    out: &mut [u8],
+    at: usize,
+) -> usize
+    requires { ⌜ Readable (now lens) (now rows) (now plan) ⌝ }
+    requires { ⌜ at + length (expand (row (now lens) (now rows)) (now plan)) ≤ length (now out) ⌝ }
+    ensures { λ r. ⌜ (r ≡ at + length (expand (row (now (lens .entry)) (now (rows .entry))) (now (plan .entry)))) × (now (out .exit) ≡ put at (expand (row (now (lens .entry)) (now (rows .entry))) (now (plan .entry))) (now (out .entry))) ⌝ }
+{
+    let mut end = at;
+    let mut i = 0;
+    while i < plan.len() {
+        let job = wide(plan[i]);
+        let start = 512 * job;
+        let len = lens[job] as usize;
+        let stop = start + len;
+        end = area::put(out, end, &rows[start..stop]);
+        i += 1;
+    }
+    end
+}
+
+// The rows of a plan's jobs behind the one job that stands already. It gives the length of the whole.
+pub fn write_rest(rows: &[u8], lens: &[u16; 24], plan: &[u8], out: &mut [u8]) -> usize
+    requires { ⌜ Readable (now lens) (now rows) (now plan) ⌝ }
+    requires { ⌜ 1 + length (expand (row (now lens) (now rows)) (now plan)) ≤ length (now out) ⌝ }
+    ensures { λ r. ⌜ (r ≡ 1 + length (expand (row (now (lens .entry)) (now (rows .entry))) (now (plan .entry)))) × (now (out .exit) ≡ put 1 (expand (row (now (lens .entry)) (now (rows .entry))) (now (plan .entry))) (now (out .entry))) ⌝ }
+{
+    write_expansion(rows, lens, plan, out, 1)
+}
