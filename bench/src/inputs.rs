@@ -90,6 +90,7 @@ pub fn hostile(rng: &mut Rng) -> Vec<Input> {
         ("norms up to 512, 24 rules", Made::of_words(rng, &two[..1], long_powers(), 0)),
         ("norms up to 512, 252 rules", Made::of_words(rng, &two[..1], long_powers(), 252)),
         ("long rows, last job differs", Made::of_words(rng, &two, long_rows(), 252)),
+        ("chain backwards beside norms up to 512", chain_beside_powers(rng)),
     ];
     let mut inputs = Vec::new();
     for (name, made) in made {
@@ -145,6 +146,17 @@ fn powers(jobs: usize) -> Vec<Plan> {
 fn long_powers() -> Vec<Plan> {
     let lens = [1, 3, 7, 15, 31, 63, 127, 255, 511, 512, 2, 6, 14, 30, 62, 126, 254, 510, 8, 16, 32, 64, 128, 256];
     lens.iter().map(|&n| vec![0; n]).collect()
+}
+
+/// Six jobs of norm 1, each a or b and then the next: the last is told apart first, so that a pass drops the pairs of one
+/// job. Beside them powers up to 512 that fit, and that each pass judges again.
+fn chain_beside_powers(rng: &mut Rng) -> Option<Made> {
+    let powers = long_powers()[..18].to_vec();
+    let made = Made::of_words(rng, &two_primes()[..2], powers, 238)?;
+    let mut rules = made.table.rules;
+    rules.extend((18..24).map(|k| rule(k, 97, &[])));
+    rules.extend((18..23).map(|k| rule(k, 98, &[k + 1])));
+    Made::of_table(outside::table::Table { jobs: 24, rules })
 }
 
 /// Rows of the first prime, and such rows with the second prime at the end.

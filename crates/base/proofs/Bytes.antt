@@ -10,6 +10,7 @@ use borrow.Author.Tests.{ltb-true, ltb-false, lt-ltb}
 use Rattle.bpa.specs.Method.{precedes}
 use Rattle.bpa.proofs.Basics.Cases.{by-test}
 use Rattle.judge.specs.Judging.{byte-base}
+use Rattle.fitting.specs.Fits.{Ordered}
 use Rattle.base.specs.Held.{ones, PairPlace}
 
 -- the place of a pair, and the pair of a place
@@ -41,6 +42,9 @@ pub place-order : (n : ℕ) (ns : List ℕ) (y x : ℕ) → x < 24 → PairPlace
 place-order n ns y x l p =
     subst (λ (a : ℕ). precedes ns x a ≡ true) (place-greater y x l)
     (subst (λ (a : ℕ). precedes ns a ((24 * y + x) / 24) ≡ true) (place-lesser y x l) (p .order))
+
+pub place-pair : (n : ℕ) (ns : List ℕ) (y x : ℕ) → x < 24 → PairPlace n ns (24 * y + x) → Ordered n ns y x
+place-pair n ns y x l p = record { greater = omega (arith, p .greater); lesser = omega (arith, p .lesser); order = place-order n ns y x l p }
 
 -- A BYTE CLEARED
 pub above-zero : (v : ℕ) → (v ≡ 0 → ⊥) → 0 < v

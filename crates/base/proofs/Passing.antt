@@ -1,5 +1,5 @@
 -- A pass over the pairs: so long as nothing is dropped, the base is as it was and the pairs passed fit. Assumes nothing.
-use mathlib.Core.Path.{_≡_, refl, sym, ap, _∙_, subst}
+use mathlib.Core.Path.{_≡_, refl, sym, ap, _∙_, subst, subst₂}
 use mathlib.Core.Bool.{Bool, true, false, true≢false}
 use mathlib.Core.List.{List, _++_, append-nil}
 use Prim.Native.Nat.{ℕ, _+_, _*_, _/_, _%_, _≤_, _<_}
@@ -13,23 +13,27 @@ use Rattle.bpa.specs.Method.{fits}
 use Rattle.rules.specs.Places.{table-of}
 use Rattle.rules.specs.Lists.{GoodList}
 use Rattle.judge.specs.Judging.{byte-base}
-use Rattle.base.specs.Held.{ones, Held, Passed}
+use Rattle.base.specs.Held.{Lists, ones, Held, Passed}
 use Rattle.matching.specs.Remembered.{memory-in, Remembered}
 use Rattle.matching.proofs.Shrinking.{remember-smaller}
-use Rattle.base.proofs.Bytes.{ones-fewer, held-byte, byte-held, zeros}
+use Rattle.base.proofs.Bytes.{place-greater, place-lesser, ones-fewer, held-byte, byte-held, zeros}
 use Rattle.base.proofs.Dropping.{drop-held, cleared}
 
--- the pairs below k were looked at
-pub record Passing (n : ℕ) (rs ns before now area area′ : List ℕ) (dropped : Bool) (k : ℕ) : Type 0 where
+-- a pair fits if it is held
+abbrev pub Fit : (n : ℕ) (rs ns base : List ℕ) (y x : ℕ) → Type 0
+Fit n rs ns base y x = 0 < getD base (24 * y + x) 0 → fits (table-of n rs) ns (byte-base base) y x ≡ true
+
+-- the first k pairs were looked at, by their greater jobs as they are listed
+pub record Passing (n : ℕ) (rs ns ord before now area area′ : List ℕ) (dropped : Bool) (k : ℕ) : Type 0 where
   pub held : Held n rs ns now
   pub remembered : Remembered n rs ns now (memory-in area′)
   pub fewer : dropped ≡ true → ones now < ones before
-  pub fit : dropped ≡ false → (i : ℕ) → i < k → 0 < getD now i 0 → fits (table-of n rs) ns (byte-base now) (i / 24) (i % 24) ≡ true
+  pub fit : dropped ≡ false → (i : ℕ) → i < k → Fit n rs ns now (getD ord (i / 24) 0) (i % 24)
   pub same : dropped ≡ false → now ≡ before
   pub size : length area′ ≡ length area
 
-module _ (n : ℕ) (rs ns before area : List ℕ) where
-  pub pass-none : Held n rs ns before → Remembered n rs ns before (memory-in area) → Passing n rs ns before before area area false 0
+module _ (n : ℕ) (rs ns ord before area : List ℕ) where
+  pub pass-none : Held n rs ns before → Remembered n rs ns before (memory-in area) → Passing n rs ns ord before before area area false 0
   pass-none h m = record {
     held = h;
     remembered = m;
@@ -39,46 +43,60 @@ module _ (n : ℕ) (rs ns before area : List ℕ) where
     size = refl;
   }
 
-  module _ (now area₁ : List ℕ) (dropped : Bool) (i : ℕ) (p : Passing n rs ns before now area area₁ dropped i)
+  module _ (now area₁ : List ℕ) (dropped : Bool) (i : ℕ) (p : Passing n rs ns ord before now area area₁ dropped i)
       (area₂ : List ℕ) (m : Remembered n rs ns now (memory-in area₂)) (l : length area₂ ≡ length area₁) where
-    -- no pair there, or one that fits
-    pub pass-on : (0 < getD now i 0 → fits (table-of n rs) ns (byte-base now) (i / 24) (i % 24) ≡ true) →
-        Passing n rs ns before now area area₂ dropped (i + 1)
-    pass-on f = record {
-      held = p .held;
-      remembered = m;
-      fewer = p .fewer;
-      fit = λ e. below-more (λ (k : ℕ). 0 < getD now k 0 → fits (table-of n rs) ns (byte-base now) (k / 24) (k % 24) ≡ true) i (p .fit e) f;
-      same = p .same;
-      size = l ∙ p .size;
-    }
+    module _ (y : ℕ) (is : y ≡ getD ord (i / 24) 0) where
+      -- no pair there, or one that fits
+      pub pass-on : Fit n rs ns now y (i % 24) → Passing n rs ns ord before now area area₂ dropped (i + 1)
+      pass-on f = record {
+        held = p .held;
+        remembered = m;
+        fewer = p .fewer;
+        fit = λ e. below-more (λ (k : ℕ). Fit n rs ns now (getD ord (k / 24) 0) (k % 24)) i (p .fit e)
+            (subst (λ (j : ℕ). Fit n rs ns now j (i % 24)) is f);
+        same = p .same;
+        size = l ∙ p .size;
+      }
 
     fewer-yet : (b : Bool) → (b ≡ true → ones now < ones before) → (b ≡ false → now ≡ before) → ones now ≤ ones before
     fewer-yet true f s = omega (arith, f refl)
     fewer-yet false f s = omega (arith, ap ones (s refl))
 
     -- a pair that does not fit
-    pub pass-drop : GoodList n rs → Good (table-of n rs) ns → i < 576 → 0 < getD now i 0 →
-        fits (table-of n rs) ns (byte-base now) (i / 24) (i % 24) ≡ false →
-        Passing n rs ns before (set now i 0) area area₂ true (i + 1)
-    pass-drop list g h one f = record {
-      held = drop-held n rs ns now (list .jobs) g (p .held) i one h f;
-      remembered = remember-smaller n rs ns now (set now i 0) (memory-in area₂) list g
-          (λ y x hy hx o e. byte-held now y x (cleared now i (24 * y + x) (omega (arith, p .held .size)) (held-byte (set now i 0) y x e))) m;
-      fewer = λ e. omega (arith, ones-fewer now i (omega (arith, p .held .size)) one, fewer-yet dropped (p .fewer) (p .same));
-      fit = λ e. absurd (true≢false e);
-      same = λ e. absurd (true≢false e);
-      size = l ∙ p .size;
-    }
+    pub pass-drop : GoodList n rs → Good (table-of n rs) ns → (y : ℕ) → 24 * y + i % 24 < 576 → 0 < getD now (24 * y + i % 24) 0 →
+        fits (table-of n rs) ns (byte-base now) y (i % 24) ≡ false →
+        Passing n rs ns ord before (set now (24 * y + i % 24) 0) area area₂ true (i + 1)
+    pass-drop list g y h one f =
+        let x : ℕ = i % 24 in
+        let at : ℕ = 24 * y + x in
+        let small : x < 24 = omega arith in
+        let no : fits (table-of n rs) ns (byte-base now) (at / 24) (at % 24) ≡ false =
+        subst₂ (λ (a b : ℕ). fits (table-of n rs) ns (byte-base now) a b ≡ false) (sym (place-greater y x small)) (sym (place-lesser y x small)) f in
+        record {
+          held = drop-held n rs ns now (list .jobs) g (p .held) at one h no;
+          remembered = remember-smaller n rs ns now (set now at 0) (memory-in area₂) list g
+              (λ a b ha hb o e. byte-held now a b (cleared now at (24 * a + b) (omega (arith, p .held .size)) (held-byte (set now at 0) a b e))) m;
+          fewer = λ e. omega (arith, ones-fewer now at (omega (arith, p .held .size)) one, fewer-yet dropped (p .fewer) (p .same));
+          fit = λ e. absurd (true≢false e);
+          same = λ e. absurd (true≢false e);
+          size = l ∙ p .size;
+        }
 
   -- every pair was looked at
-  pub pass-end : (now area₁ : List ℕ) (dropped : Bool) (k : ℕ) → 24 * n ≤ k → Passing n rs ns before now area area₁ dropped k →
-      Passed n rs ns before now (memory-in area₁) dropped
-  pass-end now area₁ dropped k l p = record {
+  pub pass-end : Lists n ord → (now area₁ : List ℕ) (dropped : Bool) (k : ℕ) → 24 * n ≤ k →
+      Passing n rs ns ord before now area area₁ dropped k → Passed n rs ns before now (memory-in area₁) dropped
+  pass-end lists now area₁ dropped k l p = record {
     held = p .held;
     remembered = p .remembered;
     fewer = p .fewer;
-    stable = λ e i one. p .fit e i (omega (arith, p .held .within i one .greater)) one;
+    stable = λ e i one.
+        let (r, in-list, is) = lists .place (i / 24) (p .held .within i one .greater) in
+        let x : ℕ = i % 24 in
+        let small : x < 24 = omega arith in
+        let place : i ≡ 24 * (i / 24) + x = omega arith in
+        let greater : getD ord ((24 * r + x) / 24) 0 ≡ i / 24 = ap (λ (a : ℕ). getD ord a 0) (place-greater r x small) ∙ is in
+        subst₂ (λ (a b : ℕ). Fit n rs ns now a b) greater (place-lesser r x small) (p .fit e (24 * r + x) (omega arith))
+        (subst (λ (a : ℕ). 0 < getD now a 0) place one);
   }
 
 -- at first nothing is remembered

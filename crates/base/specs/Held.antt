@@ -16,6 +16,11 @@ use Rattle.fitting.specs.Fits.{Ordered}
 abbrev pub PairPlace : (n : ℕ) (ns : List ℕ) (i : ℕ) → Type 0
 PairPlace n ns i = Ordered n ns (i / 24) (i % 24)
 
+-- a list that holds each job of a table
+pub record Lists (n : ℕ) (list : List ℕ) : Type 0 where
+  pub below : (i : ℕ) → i < n → getD list i 0 < n
+  pub place : (j : ℕ) → j < n → (i : ℕ) × (i < n) × (getD list i 0 ≡ j)
+
 -- a base of which rounds may go on
 pub record Held (n : ℕ) (rs ns base : List ℕ) : Type 0 where
   pub size : length base ≡ 576

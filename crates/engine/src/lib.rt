@@ -36,8 +36,8 @@ pub fn prime_rows(
 {
     let sums = row_norms(rules, norms);
     let low = lowering_rules(jobs, rules, norms, &sums);
-    let base = final_base(jobs, rules, norms, &low, &sums, area);
     let ord = order(jobs, norms);
+    let base = final_base(jobs, rules, norms, &low, &sums, &ord, area);
     prime_table(
         jobs,
         rules,

@@ -28,11 +28,14 @@ refine-requires c κs =
     let zeros = c .before .before .before .before .before .before .put-zeros in (
       record { ready = pre .0; row-norms = pre .1 .0; chains = c .before .before .before .before .before .before .before .before .before .before .before .chain-rules .ensures },
       (
-        base .ensures,
+        pre .1 .1 .0,
         (
-          subst (λ (l : List ℕ). Remembered (start .args .jobs) (start .args .rules .now) (start .args .norms .now) (base .result) (memory-in l)) (sym (zeros .ensures))
-              (memory-cleared (start .args .jobs) (start .args .rules .now) (start .args .norms .now) (base .result) (start .args .area .now) (pre .1 .1)),
-          zeros .kept .1 .1 .0 ∙ pre .1 .1,
+          base .ensures,
+          (
+            subst (λ (l : List ℕ). Remembered (start .args .jobs) (start .args .rules .now) (start .args .norms .now) (base .result) (memory-in l)) (sym (zeros .ensures))
+                (memory-cleared (start .args .jobs) (start .args .rules .now) (start .args .norms .now) (base .result) (start .args .area .now) (pre .1 .1 .1)),
+            zeros .kept .1 .1 .0 ∙ pre .1 .1 .1,
+          ),
         ),
       ),
     )

@@ -14,23 +14,23 @@ use Rattle.base.proofs.refine.Statement.{statement}
 use Rattle.base.proofs.refine.Tie as tie
 
 abbrev Inv-loop : tie.InvT-loop
-Inv-loop jobs rules norms low sums first next base₀ area₀ again₀ base area again =
+Inv-loop jobs rules norms low sums first next ord base₀ area₀ again₀ base area again =
     Held jobs rules norms base
     × (again ≡ false → (i : ℕ) → 0 < getD base i 0 → fits (table-of jobs rules) norms (byte-base base) (i / 24) (i % 24) ≡ true)
     × (length area ≡ length area₀)
     × Remembered jobs rules norms base (memory-in area)
 
 abbrev μ-loop : tie.MeasureT-loop
-μ-loop jobs rules norms low sums first next base₀ area₀ again₀ base area again = cond again (suc (ones base)) 0
+μ-loop jobs rules norms low sums first next ord base₀ area₀ again₀ base area again = cond again (suc (ones base)) 0
 
 loop-holds : tie.Need-loop-holds Inv-loop μ-loop
-loop-holds c = (c .before .before .pre .1 .0, λ e. absurd (true≢false e), refl, c .before .before .pre .1 .1 .0)
+loop-holds c = (c .before .before .pre .1 .1 .0, λ e. absurd (true≢false e), refl, c .before .before .pre .1 .1 .1 .0)
 
 pass-requires : tie.Need-pass-requires Inv-loop μ-loop
 pass-requires c κs =
     let at = c .before .before .before in
     let pre = c .before .before .before .before .before .before .pre in
-    (pre .0, (at .loop .inv .0, (at .loop .inv .3, at .loop .inv .2 ∙ pre .1 .1 .1)))
+    (pre .0, (pre .1 .0, (at .loop .inv .0, (at .loop .inv .3, at .loop .inv .2 ∙ pre .1 .1 .1 .1))))
 
 -- a pass that drops a pair leaves fewer; one that drops none is the last
 falls : (out again : Bool) (a b : ℕ) → again ≡ true → (out ≡ true → a < b) → cond out (suc a) 0 < cond again (suc b) 0
@@ -45,7 +45,7 @@ loop-less c =
 loop-again : tie.Need-loop-again Inv-loop μ-loop
 loop-again c =
     let d = c .before .before .pass in
-    (d .ensures .held, d .ensures .stable, d .kept .1 .1 .1 .1 .1 .1 .1 .1 .0 ∙ c .before .before .before .before .before .before .loop .inv .2, d .ensures .remembered)
+    (d .ensures .held, d .ensures .stable, d .kept .1 .1 .1 .1 .1 .1 .1 .1 .1 .0 ∙ c .before .before .before .before .before .before .loop .inv .2, d .ensures .remembered)
 
 same-length : tie.Need-same-length Inv-loop μ-loop
 same-length c = c .before .loop .inv .2
