@@ -8,7 +8,6 @@ use prepare::wide;
 ghost use mathlib.Core.Path.{_≡_};
 ghost use Prim.Native.Nat.{_<_};
 ghost use lib.ListN.{length};
-ghost use Rattle.bpa.specs.Method as method;
 ghost use Rattle.prepare.specs.Prepared.{Normed, RowNorms, Marked};
 ghost use Rattle.candidate.specs.Ready.{Ready};
 ghost use Rattle.matching.specs.Pairs.{Tables};

@@ -4,7 +4,7 @@ use rows::Difference;
 ghost use mathlib.Core.Path.{_≡_};
 ghost use mathlib.Core.Bool.{true};
 ghost use mathlib.Core.List.{_++_};
-ghost use Prim.Native.Nat.{_+_, _≤_, _<_};
+ghost use Prim.Native.Nat.{_≤_, _<_};
 ghost use lib.ListN.{length, drop};
 ghost use Rattle.bpa.specs.Plans.{all-below};
 ghost use Rattle.bpa.specs.Norms.{sum-of};

@@ -6,7 +6,7 @@ use Prim.Native.Nat.{ℕ, _+_, _*_, _≤_, _<_}
 use native.Mathlib.Omega.{arith}
 use lib.ListN.{length, getD, take, drop, length-append, length-take, length-drop, take-append-drop}
 use lib.Seq.{drop-drop}
-use Rattle.area.specs.Areas.{put}
+use Rattle.area.specs.Areas.{put, IsPut}
 use Rattle.area.proofs.Puts.{put-up-to, put-behind, put-length}
 use Rattle.bpa.specs.Plans.{all-below}
 use Rattle.bpa.specs.Method.{Rows, expand}
@@ -86,14 +86,15 @@ module _ (e : Rows) (plan before : List ℕ) (at : ℕ) where
         }
 
   pub writing-last : (after : List ℕ) (end i : ℕ) → length plan ≤ i → Writing e plan before at after end i →
-      (end ≡ at + length (expand e plan)) × (after ≡ put at (expand e plan) before)
+      IsPut at (expand e plan) before end after
   unfolding put
   writing-last after end i h w =
       let none : expand e (drop i plan) ≡ [] = expand-end e plan i h in
       let to : end ≡ at + length (expand e plan) = omega (arith, w .left, ap length none) in
       let front : take end after ≡ take at before ++ expand e plan =
-      sym (append-nil (take end after)) ∙ ap (λ (l : List ℕ). take end after ++ l) (sym none) ∙ w .front in (
-        to,
-        sym (take-append-drop end after) ∙ ap₂ _++_ front (w .behind ∙ ap (λ (k : ℕ). drop k before) to)
-            ∙ append-assoc (take at before) (expand e plan) (drop (at + length (expand e plan)) before),
-      )
+      sym (append-nil (take end after)) ∙ ap (λ (l : List ℕ). take end after ++ l) (sym none) ∙ w .front in
+      record {
+        next = to;
+        output = sym (take-append-drop end after) ∙ ap₂ _++_ front (w .behind ∙ ap (λ (k : ℕ). drop k before) to)
+            ∙ append-assoc (take at before) (expand e plan) (drop (at + length (expand e plan)) before);
+      }

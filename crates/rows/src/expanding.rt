@@ -1,9 +1,8 @@
 // Plans written out by the rows of their jobs.
 use area::wide;
-ghost use mathlib.Core.Path.{_≡_};
 ghost use Prim.Native.Nat.{_+_, _≤_};
 ghost use lib.ListN.{length};
-ghost use Rattle.area.specs.Areas.{put};
+ghost use Rattle.area.specs.Areas.{IsPut};
 ghost use Rattle.bpa.specs.Method.{expand};
 ghost use Rattle.rows.specs.Region.{row, Readable};
 
@@ -17,7 +16,7 @@ pub fn write_expansion(
 ) -> usize
     requires { ⌜ Readable (now lens) (now rows) (now plan) ⌝ }
     requires { ⌜ at + length (expand (row (now lens) (now rows)) (now plan)) ≤ length (now out) ⌝ }
-    ensures { λ r. ⌜ (r ≡ at + length (expand (row (now (lens .entry)) (now (rows .entry))) (now (plan .entry)))) × (now (out .exit) ≡ put at (expand (row (now (lens .entry)) (now (rows .entry))) (now (plan .entry))) (now (out .entry))) ⌝ }
+    ensures { λ r. ⌜ IsPut at (expand (row (now (lens .entry)) (now (rows .entry))) (now (plan .entry))) (now (out .entry)) r (now (out .exit)) ⌝ }
 {
     let mut end = at;
     let mut i = 0;
@@ -36,7 +35,7 @@ pub fn write_expansion(
 pub fn write_rest(rows: &[u8], lens: &[u16; 24], plan: &[u8], out: &mut [u8]) -> usize
     requires { ⌜ Readable (now lens) (now rows) (now plan) ⌝ }
     requires { ⌜ 1 + length (expand (row (now lens) (now rows)) (now plan)) ≤ length (now out) ⌝ }
-    ensures { λ r. ⌜ (r ≡ 1 + length (expand (row (now (lens .entry)) (now (rows .entry))) (now (plan .entry)))) × (now (out .exit) ≡ put 1 (expand (row (now (lens .entry)) (now (rows .entry))) (now (plan .entry))) (now (out .entry))) ⌝ }
+    ensures { λ r. ⌜ IsPut 1 (expand (row (now (lens .entry)) (now (rows .entry))) (now (plan .entry))) (now (out .entry)) r (now (out .exit)) ⌝ }
 {
     write_expansion(rows, lens, plan, out, 1)
 }

@@ -1,12 +1,9 @@
 // The replacement of a job in every row by a row of other jobs.
 ghost use mathlib.Core.Path.{_≡_};
-ghost use mathlib.Core.Bool.{true};
-ghost use mathlib.Core.List.{_∷_};
 ghost use Prim.Native.Nat.{_+_, _≤_};
 ghost use lib.ListN.{length, take};
-ghost use Rattle.bpa.specs.Plans.{all-below};
-ghost use Rattle.bpa.specs.Method.{expand, replace};
-ghost use Rattle.rows.specs.Region.{row, Within};
+ghost use Rattle.bpa.specs.Method.{replace};
+ghost use Rattle.rows.specs.Region.{row};
 ghost use Rattle.rows.specs.Replacing.{occurrences, Replaceable, Begins, replaced, AllReplaceable, NewRows, Singles, grown, Growable, Visits};
 
 // How often a job stands in a row.

@@ -17,7 +17,7 @@ returns : tie.Need-returns
 returns c =
     let a = c .before .before .before .before .before .before .before .args in
     let w = c .before .before .write-expansion in
-    w .ensures .1 ∙ put-front (expand (row (a .lens .now) (a .rows .now)) (a .plan .now)) (a .out .now)
+    w .ensures .output ∙ put-front (expand (row (a .lens .now) (a .rows .now)) (a .plan .now)) (a .out .now)
 
 pub write-form-spec : {M : Type 1} → statement M
 write-form-spec = tie.close (tie.spec write-expansion-requires same-length returns)

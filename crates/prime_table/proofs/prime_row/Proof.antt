@@ -128,8 +128,8 @@ returns-2 c =
     let w = c .before .before .write-rest in
     let v = expand (row (a .lens .now) (a .rows .now)) (candidate (table-of (a .jobs) (a .rules .now)) (a .norms .now) (getD (a .ord .now) (a .i) 0) (getD (a .ord .now) r 0)) in
     let q = ap (expand (row (a .lens .now) (a .rows .now))) p in
-    let out = w .ensures .1 ∙ ap (λ (m : List ℕ). put 1 m (set (a .out .now) 0 (getD (a .ord .now) r 0))) q in
-    let end = w .ensures .0 ∙ ap (λ (m : List ℕ). 1 + length m) q in
+    let out = w .ensures .output ∙ ap (λ (m : List ℕ). put 1 m (set (a .out .now) 0 (getD (a .ord .now) r 0))) q in
+    let end = w .ensures .next ∙ ap (λ (m : List ℕ). 1 + length m) q in
     subst (λ (m : ℕ). PrimeRow (table-of (a .jobs) (a .rules .now)) (a .norms .now) (byte-base (a .base .now)) (getD (a .ord .now) (a .i) 0) (w .last .1 .1 .1 .0) m) (sym end)
     (subst (λ (m : List ℕ). PrimeRow (table-of (a .jobs) (a .rules .now)) (a .norms .now) (byte-base (a .base .now)) (getD (a .ord .now) (a .i) 0) m (1 + length v)) (sym out)
     (behind-pair (table-of (a .jobs) (a .rules .now)) (a .norms .now) (s .pre .0 .good) (byte-base (a .base .now)) (a .ord .now) (a .lens .now) (a .rows .now) (s .pre .0 .list .jobs) (s .pre .1 .0 .order) (s .pre .0 .small) (a .i) (s .pre .1 .0 .inside) (s .pre .1 .1 .0) r f l (a .out .now) (s .pre .1 .1 .1)))

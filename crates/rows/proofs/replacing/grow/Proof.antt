@@ -31,7 +31,7 @@ module _ (c : tie.After-write-rest) where
   written : Begins (c .write-rest .last .1 .1 .1 .0) (c .write-rest .result) (start .args .lesser ∷ expand (row (start .args .lens .now) (start .args .rows .now)) (start .args .plan .now))
   written =
       behind-job (start .args .lesser) (expand (row (start .args .lens .now) (start .args .rows .now)) (start .args .plan .now)) (replicate 512 0)
-      (c .write-rest .last .1 .1 .1 .0) (c .write-rest .result) (start .pre .0 .short) (c .write-rest .ensures .0) (c .write-rest .ensures .1)
+      (c .write-rest .last .1 .1 .1 .0) (c .write-rest .result) (start .pre .0 .short) (c .write-rest .ensures .next) (c .write-rest .ensures .output)
 
 sub-replace-all : tie.Need-sub-replace-all
 sub-replace-all c = search needs
@@ -40,7 +40,7 @@ part-replace-all-start : tie.Need-part-replace-all-start
 part-replace-all-start c = search needs
 
 part-replace-all-end : tie.Need-part-replace-all-end
-part-replace-all-end c = omega (arith, c .before .before .before .before .write-rest .ensures .0, start (c .before .before .before .before) .pre .0 .short)
+part-replace-all-end c = omega (arith, c .before .before .before .before .write-rest .ensures .next, start (c .before .before .before .before) .pre .0 .short)
 
 replace-all-requires : tie.Need-replace-all-requires
 replace-all-requires c κs =
