@@ -6,8 +6,9 @@ use native.Mathlib.Nat.{add-zero, zero-add}
 use native.Mathlib.Numerals.{add-one}
 use native.Mathlib.Omega.{arith}
 use lib.ListN.{length, take, drop, set, length-append, take-append-drop}
-use lib.Seq.{length-take-le, take-at, drop-at, drop-drop, set-split}
+use lib.Seq.{length-take-le, drop-at, drop-drop, set-split}
 use Rattle.area.specs.Areas.{put}
+use Rattle.area.proofs.Puts.{put-up-to, put-behind}
 
 pub put-none : (i : ℕ) (xs : List ℕ) → put i [] xs ≡ xs
 unfolding put
@@ -28,27 +29,13 @@ pub drop-put : (i : ℕ) (bs xs : List ℕ) → i ≤ length xs → drop i (put 
 unfolding put
 drop-put i bs xs h = drop-at (take i xs) (bs ++ drop (i + length bs) xs) i (length-take-le i xs h)
 
-module _ (i : ℕ) (bs cs xs : List ℕ) (h : i ≤ length xs) where
-  front : List ℕ
-  front = take i xs ++ bs
-
-  front-length : length front ≡ i + length bs
-  unfolding front
-  front-length = length-append (take i xs) bs ∙ ap (λ (n : ℕ). n + length bs) (length-take-le i xs h)
-
-  area : put i bs xs ≡ front ++ drop (i + length bs) xs
-  unfolding put front
-  area = sym (append-assoc (take i xs) bs (drop (i + length bs) xs))
-
-  pub put-put : put (i + length bs) cs (put i bs xs) ≡ put i (bs ++ cs) xs
-  unfolding put front
-  put-put =
-      let k = i + length bs in
-      let before : take k (put i bs xs) ≡ front = ap (take k) area ∙ take-at front (drop k xs) k front-length in
-      let behind : drop (k + length cs) (put i bs xs) ≡ drop (k + length cs) xs =
-      sym (drop-drop (length cs) k (put i bs xs)) ∙ ap (λ (l : List ℕ). drop (length cs) (drop k l)) area
-      ∙ ap (drop (length cs)) (drop-at front (drop k xs) k front-length) ∙ drop-drop (length cs) k xs in
-      let whole : k + length cs ≡ i + length (bs ++ cs) = omega (arith, length-append bs cs) in
-      ap₂ (λ (x y : List ℕ). x ++ (cs ++ y)) before (behind ∙ ap (λ (m : ℕ). drop m xs) whole)
-      ∙ append-assoc (take i xs) bs (cs ++ drop (i + length (bs ++ cs)) xs)
-      ∙ ap (λ (l : List ℕ). take i xs ++ l) (sym (append-assoc bs cs (drop (i + length (bs ++ cs)) xs)))
+pub put-put : (i : ℕ) (bs cs xs : List ℕ) → i ≤ length xs → put (i + length bs) cs (put i bs xs) ≡ put i (bs ++ cs) xs
+unfolding put
+put-put i bs cs xs h =
+    let k = i + length bs in
+    let behind : drop (k + length cs) (put i bs xs) ≡ drop (k + length cs) xs =
+    sym (drop-drop (length cs) k (put i bs xs)) ∙ ap (drop (length cs)) (put-behind i bs xs h) ∙ drop-drop (length cs) k xs in
+    let whole : k + length cs ≡ i + length (bs ++ cs) = omega (arith, length-append bs cs) in
+    ap₂ (λ (x y : List ℕ). x ++ (cs ++ y)) (put-up-to i bs xs h) (behind ∙ ap (λ (m : ℕ). drop m xs) whole)
+    ∙ append-assoc (take i xs) bs (cs ++ drop (i + length (bs ++ cs)) xs)
+    ∙ ap (λ (l : List ℕ). take i xs ++ l) (sym (append-assoc bs cs (drop (i + length (bs ++ cs)) xs)))

@@ -8,9 +8,9 @@ use lib.Seq.{length-take-le, take-at, drop-at, drop-drop, take-append-le, take-a
 use Rattle.area.specs.Areas.{put}
 use Rattle.area.proofs.Parts.{part}
 
-module _ (i : ℕ) (new xs : List ℕ) (fits : i + length new ≤ length xs) where
+module _ (i : ℕ) (new xs : List ℕ) (inside : i ≤ length xs) where
   front-length : length (take i xs ++ new) ≡ i + length new
-  front-length = length-append (take i xs) new ∙ ap (λ n. n + length new) (length-take-le i xs (omega arith))
+  front-length = length-append (take i xs) new ∙ ap (λ n. n + length new) (length-take-le i xs inside)
 
   -- the bytes up to their end, and those behind
   parts : put i new xs ≡ take i xs ++ new ++ drop (i + length new) xs
@@ -23,11 +23,15 @@ module _ (i : ℕ) (new xs : List ℕ) (fits : i + length new ≤ length xs) whe
   pub put-behind : drop (i + length new) (put i new xs) ≡ drop (i + length new) xs
   put-behind = ap (drop (i + length new)) parts ∙ drop-at (take i xs ++ new) (drop (i + length new) xs) (i + length new) front-length
 
+module _ (i : ℕ) (new xs : List ℕ) (fits : i + length new ≤ length xs) where
+  inside : i ≤ length xs
+  inside = omega arith
+
   pub put-length : length (put i new xs) ≡ length xs
   put-length =
-      let front = front-length in
+      let front = front-length i new xs inside in
       let behind = length-drop (i + length new) xs in
-      ap length parts ∙ length-append (take i xs ++ new) (drop (i + length new) xs) ∙ omega arith
+      ap length (parts i new xs inside) ∙ length-append (take i xs ++ new) (drop (i + length new) xs) ∙ omega arith
 
   -- the part from i to e, replaced by as many new bytes
   pub put-part : (e : ℕ) → e ≡ i + length new → take i xs ++ (new ++ drop (e - i) (drop i xs)) ≡ put i new xs
@@ -48,10 +52,10 @@ module _ (i : ℕ) (new xs : List ℕ) (fits : i + length new ≤ length xs) whe
   slice-put end a b =
       let m = i + length new in
       let n = end - m in
-      let j : length (take i xs ++ new) + n ≡ end = omega (arith, front-length) in
+      let j : length (take i xs ++ new) + n ≡ end = omega (arith, front-length i new xs inside) in
       let k : m + n ≡ end = omega arith in
       ap (λ (e : ℕ). drop i (take e (put i new xs))) (sym j)
-      ∙ ap (λ (l : List ℕ). drop i (take (length (take i xs ++ new) + n) l)) parts
+      ∙ ap (λ (l : List ℕ). drop i (take (length (take i xs ++ new) + n) l)) (parts i new xs inside)
       ∙ ap (drop i) (take-append-add (take i xs ++ new) (drop m xs) n ∙ append-assoc (take i xs) new (take n (drop m xs)))
       ∙ drop-at (take i xs) (new ++ take n (drop m xs)) i (length-take-le i xs (omega arith))
       ∙ ap (λ (l : List ℕ). new ++ l) (part m n xs ∙ ap (λ (e : ℕ). slice m e xs) k)

@@ -24,7 +24,7 @@ further at e block block′ front new f end fits h =
     let whole = f .whole in
     let room : at + length new ≤ length block = omega arith in record {
       whole = ap length h ∙ put-length at new block room ∙ whole;
-      known = (λ i. take (end i) (h i)) ∙ put-up-to at new block room ∙ ap (λ l. l ++ new) (f .known);
+      known = (λ i. take (end i) (h i)) ∙ put-up-to at new block (omega (arith, room)) ∙ ap (λ l. l ++ new) (f .known);
     }
 
 -- the checksum of a block is that of its first 510 bytes

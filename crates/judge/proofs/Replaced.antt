@@ -1,10 +1,11 @@
 -- The list of the jobs replaced so far: a pair's replacement visits their rows only, since every other row is its own job alone. Assumes nothing.
-use mathlib.Core.Path.{_≡_, refl, sym, ap, _∙_, subst}
+use mathlib.Core.Path.{_≡_, refl, sym, ap, _∙_}
 use mathlib.Core.List.{List, [], _∷_}
 use mathlib.Core.Logic.{⊎-elim}
 use Prim.Native.Nat.{ℕ, _+_, _-_, _≤_, _<_}
 use native.Mathlib.Nat.{eq-or-lt-of-le}
 use native.Mathlib.Omega.{arith}
+use borrow.Author.Count.{below-more}
 use lib.ListN.{length, getD, take, set, replicate, length-set}
 use lib.Seq.{length-take-le, getD-take, getD-set-same, getD-set-other}
 use Rattle.bpa.specs.Method.{expand, replace, grow, itself}
@@ -49,9 +50,8 @@ module _ {jobs : ℕ} {lens region seen : List ℕ} {count left : ℕ} (few : jo
   replaced-added d = record {
     table = length-set seen count y ∙ r .table;
     room = omega (arith, r .room);
-    below = λ i l. ⊎-elim
-        (λ (s : i ≡ count). subst (λ (i : ℕ). getD (set seen count y) i 0 < jobs) (sym s) (omega (arith, new-last)))
-        (λ (s : i < count). omega (arith, new-kept i s, r .below i s)) (eq-or-lt-of-le (omega arith));
+    below = below-more (λ (i : ℕ). getD (set seen count y) i 0 < jobs) count (λ i s. omega (arith, new-kept i s, r .below i s))
+        (omega (arith, new-last));
     distinct = λ i k l m e. ⊎-elim
         (λ (s : k ≡ count).
         d i (omega arith) (sym (new-kept i (omega arith)) ∙ e ∙ ap (λ (k : ℕ). getD (set seen count y) k 0) s ∙ new-last))

@@ -97,9 +97,12 @@ module _ (n : ℕ) (rs ns : List ℕ) (small : (j : ℕ) → j < n → getD ns j
       ap (λ (u : ℕ). bitOr (2 ^ ((r .move + 11 * u) % 64)) (mark ns x (all-rules rs))) change
       ∙ bit-in ns x (all-rules rs) (record { job = x; move = r .move; after = v }) k (job-own x (record { job = x; move = r .move; after = v }) refl))
 
-  pub same-mark : (y x : ℕ) → y < n → x < n → Same-steps (table-of n rs) ns y x → mark ns y (all-rules rs) ≡ mark ns x (all-rules rs)
-  same-mark y x hy hx s =
-      sym (half x y hx hy (s .back)) ∙ or-comm (mark ns x (all-rules rs)) (mark ns y (all-rules rs)) ∙ half y x hy hx (s .forth)
+  pub same-mark : (marks : List ℕ) → Marked n rs ns marks → (y x : ℕ) → Same-steps (table-of n rs) ns y x → y < n → x < n →
+      getD marks y 0 ≡ getD marks x 0
+  same-mark marks m y x s hy hx =
+      m .is y hy
+      ∙ sym (half x y hx hy (s .back)) ∙ or-comm (mark ns x (all-rules rs)) (mark ns y (all-rules rs)) ∙ half y x hy hx (s .forth)
+      ∙ sym (m .is x hx)
 
 -- the bit of a step, as it is made
 pub shifted : (k : ℕ) → k < 64 → (1 * 2 ^ k) % 2 ^ 64 ≡ 2 ^ k
@@ -131,5 +134,5 @@ module _ (rs ns a : List ℕ) where
       (getD-set-other a j k v 0 (λ w. never-both (of-job k r) (job-own k r (sym e ∙ sym w)) q) ∙ f k m))
       ∙ sym (ap (mark ns k) (all-cons rs i h))
 
-  pub marked : (n : ℕ) → n ≤ 24 → ((j : ℕ) → j < n → getD ns j 0 ≤ 512) → Marking rs ns a 0 → Marked n rs ns a
-  marked n few small f = record { same = λ y x s hy hx. f y (omega arith) ∙ same-mark n rs ns small y x hy hx s ∙ sym (f x (omega arith)) }
+  pub marked : (n : ℕ) → n ≤ 24 → Marking rs ns a 0 → Marked n rs ns a
+  marked n few f = record { is = λ j h. f j (omega arith) }

@@ -9,7 +9,6 @@ use lib.ListN.{length, getD, drop}
 use Rattle.bpa.specs.Plans.{Rule, Move}
 use Rattle.bpa.specs.Norms.{sum-of, Good}
 use Rattle.bpa.specs.Method.{lowering}
-use Rattle.bpa.proofs.Base.SameBase.{Same-steps}
 use Rattle.rules.specs.Places.{rule-at, rule-count, rules-in, table-of}
 use Rattle.rules.specs.Lists.{GoodList}
 
@@ -78,6 +77,6 @@ unfoldable pub mark : (norms : List ℕ) → (job : ℕ) → List Rule → ℕ
 mark ns j [] = 0
 mark ns j (r ∷ rs) = cond (of-job j r) (bitOr (mark ns j rs) (step-bit ns r)) (mark ns j rs)
 
--- MARKS of the jobs: jobs with the same steps have the same mark
+-- THE MARKS of the jobs
 pub record Marked (n : ℕ) (rs ns marks : List ℕ) : Type 0 where
-  pub same : (y x : ℕ) → Same-steps (table-of n rs) ns y x → y < n → x < n → getD marks y 0 ≡ getD marks x 0
+  pub is : (j : ℕ) → j < n → getD marks j 0 ≡ mark ns j (all-rules rs)

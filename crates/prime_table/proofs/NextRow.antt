@@ -95,7 +95,7 @@ module _ (t : Table) (ns : List ℕ) (g : Good t ns) (b : Base) (ord lens region
           size = put-length 1 v (set out 0 (getD ord r 0)) fits ∙ whole;
           some = omega arith;
           short = room;
-          is = put-up-to 1 v (set out 0 (getD ord r 0)) fits
+          is = put-up-to 1 v (set out 0 (getD ord r 0)) (omega (arith, fits))
               ∙ ap (λ (p : List ℕ). p ++ v) (take-suc-set out 0 (getD ord r 0) (omega arith))
               ∙ sym paired;
         }

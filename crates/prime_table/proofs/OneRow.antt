@@ -7,10 +7,10 @@ use native.Mathlib.Nat.{eq-or-lt-of-le}
 use native.Mathlib.Omega.{arith}
 use lib.Dec.{ltb}
 use lib.ListN.{length, getD, take, drop, set}
-use lib.Seq.{length-take-le, getD-set-same, getD-set-other, take-append-le, take-take, drop-drop, drop-at}
+use lib.Seq.{length-take-le, getD-set-same, getD-set-other, drop-drop, drop-at}
 use borrow.Author.Tests.{ltb-true, ltb-false}
 use Rattle.area.specs.Areas.{put}
-use Rattle.area.proofs.Puts.{put-up-to, put-behind}
+use Rattle.area.proofs.Puts.{put-up-to, put-behind, take-put}
 use Rattle.bpa.proofs.Basics.Cases.{by-test}
 use Rattle.rows.specs.Region.{row}
 use Rattle.area.proofs.Parts.{part}
@@ -23,19 +23,13 @@ module _ (lens region v : List ℕ) (y n : ℕ) (fits : 512 * y + length v ≤ l
       ap (λ (m : ℕ). take m (drop (512 * y) (put (512 * y) v region))) (getD-set-same lens y n 0 h)
       ∙ part (512 * y) n (put (512 * y) v region)
       ∙ ap (λ (m : ℕ). drop (512 * y) (take m (put (512 * y) v region))) to
-      ∙ ap (drop (512 * y)) (put-up-to (512 * y) v region fits)
+      ∙ ap (drop (512 * y)) (put-up-to (512 * y) v region (omega arith))
       ∙ drop-at (take (512 * y) region) v (512 * y) (length-take-le (512 * y) region (omega arith))
 
   -- before the row, and behind it
   before : (a c : ℕ) → a + c ≤ 512 * y → take c (drop a (put (512 * y) v region)) ≡ take c (drop a region)
   before a c h =
-      let m = a + c in
-      let f : take m (put (512 * y) v region) ≡ take m region =
-      sym (take-take m (512 * y + length v) (put (512 * y) v region) (omega arith))
-      ∙ ap (take m) (put-up-to (512 * y) v region fits)
-      ∙ take-append-le m (take (512 * y) region) v (rw (length-take-le (512 * y) region (omega arith)) h)
-      ∙ take-take m (512 * y) region h in
-      part a c (put (512 * y) v region) ∙ ap (drop a) f ∙ sym (part a c region)
+      part a c (put (512 * y) v region) ∙ ap (drop a) (take-put (512 * y) v region fits (a + c) h) ∙ sym (part a c region)
 
   behind : (a : ℕ) → 512 * y + length v ≤ a → drop a (put (512 * y) v region) ≡ drop a region
   behind a h =
@@ -43,7 +37,7 @@ module _ (lens region v : List ℕ) (y n : ℕ) (fits : 512 * y + length v ≤ l
       let f : end + (a - end) ≡ a = omega arith in
       ap (λ (m : ℕ). drop m (put (512 * y) v region)) (sym f)
       ∙ sym (drop-drop (a - end) end (put (512 * y) v region))
-      ∙ ap (drop (a - end)) (put-behind (512 * y) v region fits)
+      ∙ ap (drop (a - end)) (put-behind (512 * y) v region (omega arith))
       ∙ drop-drop (a - end) end region
       ∙ ap (λ (m : ℕ). drop m region) f
 

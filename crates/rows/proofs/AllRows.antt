@@ -1,11 +1,11 @@
 -- The replacement in every row, visited row by visited row: each row lies in a block of its own. Assumes nothing.
 use mathlib.Core.Path.{_≡_, refl, sym, ap, _∙_, subst}
 use mathlib.Core.List.{List, _++_}
-use mathlib.Core.Logic.{_⊎_, inl, inr, ⊎-elim}
+use mathlib.Core.Logic.{_⊎_, inl, inr}
 use Prim.Native.Nat.{ℕ, _+_, _*_, _-_, _≤_, _<_}
-use native.Mathlib.Nat.{eq-or-lt-of-le}
 use native.Mathlib.Decide.{ℕ-discrete, decLt}
 use native.Mathlib.Omega.{arith}
+use borrow.Author.Count.{below-more}
 use lib.ListN.{length, getD, take, drop, set, length-set}
 use lib.Seq.{take-take, drop-drop, take-at, drop-at, length-take-le, getD-set-same, getD-set-other}
 use borrow.Rule.Slice.PartMut.{putMid, postOf, take-put, drop-put, same-len-mid, mid-len}
@@ -137,10 +137,8 @@ module _ {jobs : ℕ} {lens₀ region₀ : List ℕ} {h : ℕ} {visited by : Lis
     pass-row e = record {
       within = m .within;
       upto = omega arith;
-      done = λ i n. ⊎-elim
-          (λ (s : i ≡ k).
-          subst (λ (i : ℕ). row lens region (getD visited i 0) ≡ replace h by (row lens₀ region₀ (getD visited i 0))) (sym s) here)
-          (λ (s : i < k). m .done i s) (eq-or-lt-of-le (omega arith));
+      done = below-more (λ (i : ℕ). row lens region (getD visited i 0) ≡ replace h by (row lens₀ region₀ (getD visited i 0))) k
+          (m .done) here;
       rest = λ i b d. m .rest i b (λ z n. d z (omega arith));
     }
       where
@@ -229,13 +227,9 @@ module _ {jobs : ℕ} {lens₀ region₀ : List ℕ} {h : ℕ} {visited by : Lis
       next-row = record {
         within = within-new;
         upto = omega arith;
-        done = λ i z. ⊎-elim
-            (λ (s : i ≡ k).
-            subst
+        done = below-more
             (λ (i : ℕ). row (set lens j n) (written region new j below (m .within .size) whole) (getD visited i 0)
-            ≡ replace h by (row lens₀ region₀ (getD visited i 0))) (sym s) row-here)
-            (λ (s : i < k).
-            row-other (getD visited i 0) (v .below i (omega arith)) (v .distinct i k s l) ∙ m .done i s)
-            (eq-or-lt-of-le (omega arith));
+            ≡ replace h by (row lens₀ region₀ (getD visited i 0))) k
+            (λ i s. row-other (getD visited i 0) (v .below i (omega arith)) (v .distinct i k s l) ∙ m .done i s) row-here;
         rest = λ i b d. row-other i b (λ e. d k (omega arith) (sym e)) ∙ m .rest i b (λ z n. d z (omega arith));
       }

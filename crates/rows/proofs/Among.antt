@@ -1,11 +1,11 @@
 -- A job is among the first jobs of a list, or it is not. Assumes nothing.
-use mathlib.Core.Path.{_≡_, sym, ap, _∙_}
+use mathlib.Core.Path.{_≡_}
 use mathlib.Core.List.{List}
-use mathlib.Core.Logic.{_⊎_, inl, inr, ⊎-elim}
-use Prim.Native.Nat.{ℕ, zero, suc, _+_, _<_}
-use native.Mathlib.Nat.{eq-or-lt-of-le}
+use mathlib.Core.Logic.{_⊎_, inl, inr}
+use Prim.Native.Nat.{ℕ, zero, suc, _<_}
 use native.Mathlib.Decide.{ℕ-discrete}
 use native.Mathlib.Omega.{arith}
+use borrow.Author.Count.{below-more}
 use lib.ListN.{getD}
 
 -- where a job stands among the first n
@@ -17,11 +17,6 @@ pub record Among (list : List ℕ) (n j : ℕ) : Type 0 where
 abbrev pub Missing : (list : List ℕ) → (n j : ℕ) → Type 0
 Missing list n j = (i : ℕ) → i < n → getD list i 0 ≡ j → ⊥
 
--- one more place that does not hold the job
-pub missing-more : (list : List ℕ) (n j : ℕ) → Missing list n j → (getD list n 0 ≡ j → ⊥) → Missing list (n + 1) j
-missing-more list n j d h i l e =
-    ⊎-elim (λ (s : i ≡ n). h (ap (λ (z : ℕ). getD list z 0) (sym s) ∙ e)) (λ (s : i < n). d i s e) (eq-or-lt-of-le (omega arith))
-
 pub among : (list : List ℕ) (n j : ℕ) → Among list n j ⊎ Missing list n j
 among list zero j = inr (λ i l e. absurd (omega arith))
 among list (suc n) j = go (ℕ-discrete (getD list n 0) j) (among list n j)
@@ -29,4 +24,4 @@ among list (suc n) j = go (ℕ-discrete (getD list n 0) j) (among list n j)
     go : Dec (getD list n 0 ≡ j) → Among list n j ⊎ Missing list n j → Among list (suc n) j ⊎ Missing list (suc n) j
     go (yes e) m = inl (record { place = n; before = omega arith; is = e })
     go (no h) (inl f) = inl (record { place = f .place; before = omega (arith, f .before); is = f .is })
-    go (no h) (inr d) = inr (λ i l. missing-more list n j d h i (omega arith))
+    go (no h) (inr d) = inr (λ i l. below-more (λ (k : ℕ). getD list k 0 ≡ j → ⊥) n d h i (omega arith))

@@ -73,12 +73,12 @@ module _ (e : Rows) (plan before : List ℕ) (at : ℕ) where
           inside = omega arith;
           left = omega (arith, w .left, ap length split, length-append lent r);
           front =
-              ap (λ (l : List ℕ). l ++ r) (put-up-to end lent after row-fits)
+              ap (λ (l : List ℕ). l ++ r) (put-up-to end lent after (omega (arith, row-fits)))
               ∙ append-assoc (take end after) lent r
               ∙ ap (λ (l : List ℕ). take end after ++ l) (sym split)
               ∙ w .front;
           behind =
-              put-behind end lent after row-fits
+              put-behind end lent after (omega (arith, row-fits))
               ∙ sym (drop-drop (length lent) end after)
               ∙ ap (drop (length lent)) (w .behind)
               ∙ drop-drop (length lent) end before;

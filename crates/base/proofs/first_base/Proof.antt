@@ -6,6 +6,7 @@ use native.Mathlib.Omega.{arith}
 use Rattle.bpa.proofs.Basics.Cases.{never-both}
 use Rattle.bpa.proofs.Base.SameBase.{Same-steps}
 use Rattle.rules.specs.Places.{table-of}
+use Rattle.prepare.proofs.Marks.{same-mark}
 use Rattle.base.specs.Held.{PairPlace}
 use Rattle.base.proofs.Firsts.{First, first-none, first-without, first-with, first-held}
 use Rattle.base.proofs.first_base.Statement.{statement}
@@ -71,7 +72,7 @@ loop-less-2 c = omega (arith, c .before .before .before .before .loop-test .take
 loop-again-2 : tie.Need-loop-again-2 Inv-loop μ-loop
 loop-again-2 c =
     let at = c .before .before .before .before .before in
-    skip at (λ p m. c .if2 .taken (start at .pre .1 .same (at .loop .k / 24) (at .loop .k % 24) m (p .greater) (p .lesser)))
+    skip at (λ p m. c .if2 .taken (same-mark (jobs at) (rs at) (ns at) (start at .pre .0 .small) (start at .args .marks .now) (start at .pre .1) (at .loop .k / 24) (at .loop .k % 24) m (p .greater) (p .lesser)))
 
 precedes-requires : tie.Need-precedes-requires Inv-loop μ-loop
 precedes-requires c κs = omega (arith, few (c .before .before .before .before .before) (c .before .before .before .before .loop-test .taken))

@@ -1,7 +1,10 @@
 -- `judge::note` meets its contract. The jobs passed are not the one that is looked for. Assumes nothing.
-use Prim.Native.Nat.{_-_, _≤_}
+use mathlib.Core.Path.{_≡_}
+use Prim.Native.Nat.{ℕ, _-_, _≤_}
 use native.Mathlib.Omega.{arith}
-use Rattle.rows.proofs.Among.{Missing, missing-more}
+use lib.ListN.{getD}
+use borrow.Author.Count.{below-more}
+use Rattle.rows.proofs.Among.{Missing}
 use Rattle.judge.specs.Noting.{there, added}
 use Rattle.judge.proofs.note.Statement.{statement}
 use Rattle.judge.proofs.note.Tie as tie
@@ -30,7 +33,7 @@ loop-less c = omega arith
 loop-again : tie.Need-loop-again Inv-loop μ-loop
 loop-again c =
     let a = c .before .before .before .before .args in let l = c .before .before .before .loop in
-    (omega arith, missing-more (a .seen .now) (l .k) (a .job) (l .inv .1) (c .if1 .left))
+    (omega arith, below-more (λ (k : ℕ). getD (a .seen .now) k 0 ≡ a .job → ⊥) (l .k) (l .inv .1) (c .if1 .left))
 
 element-write-seen : tie.Need-element-write-seen Inv-loop μ-loop
 element-write-seen c = omega arith

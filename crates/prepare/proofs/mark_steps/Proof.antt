@@ -161,7 +161,7 @@ returns c =
     let ns = start .args .norms .now in
     let marks = c .before .loop .marks in
     let e : c .before .loop .i ≡ 0 = omega (arith, c .loop-test .left) in
-    marked rs ns marks (start .args .jobs) (start .pre .0 .list .jobs) (start .pre .0 .small)
+    marked rs ns marks (start .args .jobs) (start .pre .0 .list .jobs)
     (subst (λ (m : ℕ). Marking rs ns marks m) e (c .before .loop .inv .2))
 
 pub mark-steps-spec : {M : Type 1} → statement M
