@@ -15,10 +15,11 @@
  *    same answer and the same bytes. Any number of threads may call at once, each on areas of its own.
  *
  * AREAS
- *  - An area is a pointer and a length in bytes. Areas of any length are accepted.
- *  - A NULL pointer is allowed with length 0 only. With any other length it is the caller's fault.
+ *  - An area is a pointer to as many bytes as its length says. Areas of any length are accepted.
+ *  - A NULL pointer is allowed with length 0 only.
  *  - An area that is written to (output, workspace) overlaps no other area of the call. Areas that are
  *    only read (image, rules, plans) may coincide.
+ *  - Where one of these does not hold, what the call does is undefined, in C's sense of the word.
  *  - After a refusal the output area keeps its bytes. After an answer, its bytes beyond the answer's
  *    output keep theirs. No byte of the output is written before refusal 10 is excluded.
  *  - The workspace of compare and prime form may hold anything before the call and changes no answer.
@@ -30,6 +31,12 @@
 
 #include <stddef.h>
 #include <stdint.h>
+
+/* The version of this header, and of the archive that it belongs to. */
+#define GINDRAZOMA_VERSION_MAJOR 1
+#define GINDRAZOMA_VERSION_MINOR 0
+#define GINDRAZOMA_VERSION_PATCH 0
+#define GINDRAZOMA_VERSION "1.0.0"
 
 #ifdef __cplusplus
 extern "C" {
