@@ -26,7 +26,7 @@ STAGES  = proofs
 STAGES += images    # gindrazoma_read_image, gindrazoma_write_image
 STAGES += norms     # gindrazoma_plan_norm, gindrazoma_nth_move, gindrazoma_shortest_run
 STAGES += sameness  # gindrazoma_compare, gindrazoma_prime_form
-STAGES += whole     # all seven entries together
+STAGES += whole     # every call of the header together
 STAGES += planlook  # the program, and what is installed
 
 # The checks of each stage: `make check-NAME` for each name.

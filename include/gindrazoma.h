@@ -22,9 +22,9 @@
  *  - Where one of these does not hold, what the call does is undefined, in C's sense of the word.
  *  - After a refusal the output area keeps its bytes. After an answer, its bytes beyond the answer's
  *    output keep theirs. No byte of the output is written before refusal 10 is excluded.
- *  - The workspace of compare and prime form may hold anything before the call and changes no answer.
- *    After refusal 1 it keeps its bytes. After every other end its first GINDRAZOMA_WORKSPACE bytes are
- *    zero, and later ones keep theirs.
+ *  - A workspace has GINDRAZOMA_WORKSPACE bytes or more. It may hold anything before the call and changes
+ *    no answer. After refusal 1 it keeps its bytes. After every other end its first GINDRAZOMA_WORKSPACE
+ *    bytes are zero, and later ones keep theirs.
  */
 #ifndef GINDRAZOMA_H
 #define GINDRAZOMA_H
@@ -71,7 +71,7 @@ enum {
     GINDRAZOMA_RUN_MAX = 4096,       /* what the shortest run writes */
     GINDRAZOMA_MOVE_MAX = 4100,      /* what the n-th move writes */
     GINDRAZOMA_FORM_MAX = 4096,      /* what the prime form writes */
-    GINDRAZOMA_WORKSPACE = 65536     /* the workspace of compare and prime form */
+    GINDRAZOMA_WORKSPACE = 65536     /* the workspace of a call that takes one */
 };
 
 /*
@@ -122,7 +122,7 @@ int32_t gindrazoma_nth_move(const uint8_t *image, size_t image_len, const uint8_
                             uint8_t *out, size_t out_len);
 
 /*
- * Compares two plans over one table. The workspace has GINDRAZOMA_WORKSPACE bytes or more.
+ * Compares two plans over one table.
  *
  * Answer: 1 if the plans are the same (bisimilar), 0 if they are apart.
  * Refusals: 1, 2, 3, 4, 5, 6, 7, 8, 9; 8 of either plan comes before 9 of either.
@@ -134,7 +134,6 @@ int32_t gindrazoma_compare(const uint8_t *image, size_t image_len, const uint8_t
  * The prime form of a plan: writes a row of jobs that is the same as the plan, in which no job is the
  * same as a plan of two or more jobs, nor the same as a lower-numbered job. Two plans over one table have
  * equal prime forms exactly if they are the same, and no plan that is the same has more jobs.
- * The workspace has GINDRAZOMA_WORKSPACE bytes or more.
  *
  * Answer: the bytes written, one for each job, 0 (the empty plan) to 4,096.
  * Refusals: 1, 2, 3, 4, 5, 6, 7, 8, 9, 10.

@@ -1,4 +1,4 @@
-//! The seven calls of gindrazoma as an ordinary Rust program by the same method: the baseline of the benchmark.
+//! The calls of gindrazoma as an ordinary Rust program by the same method: the baseline of the benchmark.
 //! Answers, refusals and areas are those of include/gindrazoma.h.
 #![no_std]
 #![forbid(unsafe_code)]
@@ -16,7 +16,7 @@ use image::{fill_block, layout_of_list, load};
 use norms::{job_norms, plan_norm_of, plan_refusal, shortest, table_refusal};
 use table::{Table, RULE};
 
-/// The length of the workspace that compare and prime form use.
+/// The length of the workspace of a call that takes one.
 pub const WORKSPACE: usize = 65536;
 
 pub fn read_image(image: &[u8], out: &mut [u8]) -> i32 {

@@ -30,7 +30,7 @@ const ALL: [(Refusal, &str); 10] = [
 ];
 
 impl Refusal {
-    /// Its number, 1 to 10.
+    /// Its number in the header.
     pub fn number(self) -> u8 {
         self as u8
     }

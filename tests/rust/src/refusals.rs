@@ -1,4 +1,4 @@
-//! The refusals 1 to 10 as the documents state them, for any bytes. 0 is none.
+//! The refusals as the documents state them, for any bytes. 0 is none.
 use crate::table::{norm, rule, Table};
 
 fn number_at(block: &[u8], at: usize) -> usize {
