@@ -34,7 +34,7 @@ CHECKS_proofs   = proofs
 CHECKS_images   = $(call library-checks,images)
 CHECKS_norms    = $(call library-checks,norms)
 CHECKS_sameness = $(call library-checks,sameness)
-CHECKS_whole    = symbols c-load memory-c-load plain example
+CHECKS_whole    = symbols names c-load memory-c-load plain example
 CHECKS_planlook = samples rust-look install
 library-checks  = c-$(1) pages-c-$(1) memory-c-$(1) rust-$(1) memory-rust-$(1) wrapper-$(1)
 
@@ -76,6 +76,9 @@ check-memory-c-%: build/c/%
 
 check-symbols: $(ARCHIVE)
 	@tests/symbols.sh $(ARCHIVE)
+
+check-names: $(ARCHIVE)
+	@tests/names.sh $(ARCHIVE)
 
 # ---- Rust
 

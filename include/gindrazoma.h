@@ -56,22 +56,24 @@ enum gindrazoma_refusal {
     GINDRAZOMA_OUTPUT_SHORT = 10    /* the output area is shorter than the output */
 };
 
-/* Limits, and lengths in bytes. The lengths of output are enough for every accepted input. */
 enum {
+    /* Limits. README.md lists them. */
     GINDRAZOMA_JOBS_MAX = 24,        /* jobs of a table */
     GINDRAZOMA_RULES_MAX = 252,      /* rules of a table */
     GINDRAZOMA_AFTER_MAX = 4,        /* jobs after a move */
     GINDRAZOMA_JOB_NORM_MAX = 512,   /* norm of a job */
     GINDRAZOMA_PLAN_NORM_MAX = 4096, /* norm of a plan; its jobs are no more than that */
+    GINDRAZOMA_IMAGE_MAX = 2048,     /* bytes of an image: what the writer writes */
+    GINDRAZOMA_WORKSPACE = 65536,    /* bytes that a workspace needs */
+
+    /* Lengths in bytes. Those of output are enough for every accepted input. */
     GINDRAZOMA_RULE_BYTES = 8,       /* a rule: job, move, number of jobs after, four bytes for them, a zero byte */
     GINDRAZOMA_BLOCK_BYTES = 512,    /* a block of an image, with places for 63 rules */
-    GINDRAZOMA_IMAGE_MAX = 2048,     /* an image: what the writer writes */
     GINDRAZOMA_RULE_LIST_MAX = 2016, /* a rule list: what the writer takes */
     GINDRAZOMA_READ_MAX = 2017,      /* what the reader writes */
     GINDRAZOMA_RUN_MAX = 4096,       /* what the shortest run writes */
     GINDRAZOMA_MOVE_MAX = 4100,      /* what the n-th move writes */
-    GINDRAZOMA_FORM_MAX = 4096,      /* what the prime form writes */
-    GINDRAZOMA_WORKSPACE = 65536     /* the workspace of a call that takes one */
+    GINDRAZOMA_FORM_MAX = 4096       /* what the prime form writes */
 };
 
 /*

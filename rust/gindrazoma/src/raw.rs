@@ -2,6 +2,8 @@
 //!
 //! A slice is never NULL with a length, and a slice that is written to overlaps no other: what the library asks of its
 //! callers holds by Rust's own rules.
+//!
+//! The constants are the header's limits, and its lengths in bytes, without their prefix.
 
 /// Each line is a call without its prefix: the order of its areas and numbers is that of include/gindrazoma.h. It becomes
 /// the declaration of `gindrazoma_NAME`, in which an area is a pointer and a length, and a safe function over slices.
@@ -29,6 +31,21 @@ macro_rules! calls {
         }
     };
 }
+
+pub const JOBS_MAX: usize = 24;
+pub const RULES_MAX: usize = 252;
+pub const AFTER_MAX: usize = 4;
+pub const JOB_NORM_MAX: usize = 512;
+pub const PLAN_NORM_MAX: usize = 4096;
+pub const IMAGE_MAX: usize = 2048;
+pub const WORKSPACE: usize = 65536;
+pub const RULE_BYTES: usize = 8;
+pub const BLOCK_BYTES: usize = 512;
+pub const RULE_LIST_MAX: usize = 2016;
+pub const READ_MAX: usize = 2017;
+pub const RUN_MAX: usize = 4096;
+pub const MOVE_MAX: usize = 4100;
+pub const FORM_MAX: usize = 4096;
 
 calls! {
     fn read_image(image: &[u8], out: &mut [u8]);

@@ -39,7 +39,7 @@ pub struct Workspace(Vec<u8>);
 
 impl Workspace {
     pub fn new() -> Workspace {
-        Workspace(vec![0; 65536])
+        Workspace(vec![0; raw::WORKSPACE])
     }
 }
 
@@ -68,14 +68,14 @@ fn written(len: usize, call: impl FnOnce(&mut [u8]) -> i32) -> Result<Vec<u8>, R
 
 impl Table {
     pub fn from_image(image: &[u8]) -> Result<Table, Refusal> {
-        let read = written(2017, |out| raw::read_image(image, out))?;
-        let rules = read[1..].chunks_exact(8).map(Rule::of_place).collect();
+        let read = written(raw::READ_MAX, |out| raw::read_image(image, out))?;
+        let rules = read[1..].chunks_exact(raw::RULE_BYTES).map(Rule::of_place).collect();
         Ok(Table { image: image.to_vec(), jobs: read[0], rules })
     }
 
     pub fn from_rules(jobs: u32, rules: &[Rule]) -> Result<Table, Refusal> {
         let places: Vec<u8> = rules.iter().flat_map(Rule::place).collect();
-        Table::from_image(&written(2048, |out| raw::write_image(jobs, &places, out))?)
+        Table::from_image(&written(raw::IMAGE_MAX, |out| raw::write_image(jobs, &places, out))?)
     }
 
     pub fn image(&self) -> &[u8] {
@@ -100,13 +100,13 @@ impl Table {
     /// Moves that lead from a plan to the empty plan, as few as can be.
     #[inline]
     pub fn shortest_run(&self, plan: &[u8]) -> Result<Vec<u8>, Refusal> {
-        written(4096, |out| raw::shortest_run(&self.image, plan, out))
+        written(raw::RUN_MAX, |out| raw::shortest_run(&self.image, plan, out))
     }
 
     /// The move of a plan at an index, one for each rule of its first job in image order.
     #[inline]
     pub fn nth_move(&self, plan: &[u8], index: u32) -> Result<Option<Move>, Refusal> {
-        let out = written(4100, |out| raw::nth_move(&self.image, plan, index, out))?;
+        let out = written(raw::MOVE_MAX, |out| raw::nth_move(&self.image, plan, index, out))?;
         Ok(out.split_first().map(|(&action, rest)| Move { action, rest: rest.to_vec() }))
     }
 
@@ -119,6 +119,6 @@ impl Table {
     /// The prime form of a plan: equal for two plans exactly if they are bisimilar.
     #[inline]
     pub fn prime_form(&self, space: &mut Workspace, plan: &[u8]) -> Result<Vec<u8>, Refusal> {
-        written(4096, |out| raw::prime_form(&self.image, plan, out, &mut space.0))
+        written(raw::FORM_MAX, |out| raw::prime_form(&self.image, plan, out, &mut space.0))
     }
 }
