@@ -51,10 +51,11 @@ test:
 SOURCES := crates.txt $(shell find crates -name '*.rt' -o -name '*.antt')
 
 target/staticlib/libgindrazoma.a: $(SOURCES)
-	rt staticlib gindrazoma
+	@tools/progress.sh gindrazoma build/log/gindrazoma.log rt staticlib gindrazoma
 
 target/bin/planlook: $(SOURCES)
-	rt check planlook
+	@tools/progress.sh planlook build/log/planlook.log rt check planlook
+	@touch $@ # rt leaves a program as it is if nothing of it has changed
 
 check-proofs:
 	rt ci
