@@ -1,12 +1,12 @@
 // Leaves over byte slices.
 ghost use mathlib.Core.Path.{_≡_};
-ghost use Prim.Native.Nat.{_+_, _-_, _≤_, _<_};
+ghost use Prim.Native.Nat.{_+_, _-_, _≤_};
 ghost use lib.ListN.{length, replicate};
-ghost use Rattle.area.specs.Areas.{put, IsPut};
+ghost use Rattle.area.specs.Areas.{IsByte, put, IsPut};
 
 // A byte as a number.
 pub fn wide(byte: u8) -> usize
-    ensures { λ r. ⌜ (r ≡ byte) × (r < 256) ⌝ }
+    ensures { λ r. ⌜ IsByte byte r ⌝ }
 {
     byte as usize
 }

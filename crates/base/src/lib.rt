@@ -1,10 +1,10 @@
 // The base: all pairs of ordered jobs at first, then those that fit, in passes that drop a pair as soon as it does not fit.
 use area::put_zeros;
+use area::wide;
 use fitting::fits;
 use judge::precedes;
 use prepare::chain_rules;
 use prepare::mark_steps;
-use prepare::wide;
 ghost use mathlib.Core.Path.{_≡_};
 ghost use Prim.Native.Nat.{_<_};
 ghost use lib.ListN.{length};

@@ -1,7 +1,7 @@
 // Whether a pair of jobs fits a base: the rules of its two sides matched both ways.
+use area::wide;
 use candidate::candidate;
 use matching::answered;
-use prepare::wide;
 use rules::rule_total;
 ghost use mathlib.Core.Path.{_≡_};
 ghost use mathlib.Core.Bool.{true};

@@ -1,6 +1,6 @@
 // Whether a rule of one job of a pair is answered by a rule of the other: equal moves, the remainders judged.
+use area::wide;
 use candidate::put_before;
-use prepare::wide;
 use rules::rule_after;
 use rules::rule_move;
 use rules::rule_total;

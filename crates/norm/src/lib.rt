@@ -33,10 +33,10 @@ pub fn norm_of(norms: &[u16; 24], job: usize) -> u32
     requires { ⌜ job < 24 ⌝ }
     ensures { λ r. ⌜ IsNorm (getD (now (norms .entry)) job 0) r ⌝ }
 {
-    wide(norms[job])
+    wide_norm(norms[job])
 }
 
-fn wide(n: u16) -> u32
+fn wide_norm(n: u16) -> u32
     ensures { λ r. ⌜ IsNorm n r ⌝ }
 {
     n as u32

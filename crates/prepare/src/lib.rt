@@ -1,5 +1,6 @@
 // What is worked out once from a list of rules and the norms of its jobs: the norm of each rule's row, the first norm-lowering rule of
 // each job, and the rules of each job as a chain.
+use area::wide;
 use rules::rule_after;
 use rules::rule_job;
 use rules::rule_move;
@@ -9,13 +10,6 @@ ghost use Prim.Native.Nat.{ℕ, _<_};
 ghost use lib.ListN.{length};
 ghost use Rattle.rules.specs.Lists.{GoodList};
 ghost use Rattle.prepare.specs.Prepared.{Normed, ShortRow, RowNorm, RowNorms, Lowered, Chained, Marked};
-
-// A byte as a number that may be an index.
-pub fn wide(b: u8) -> usize
-    ensures { λ r. ⌜ r ≡ b ⌝ }
-{
-    b as usize
-}
 
 // The norm of a row of at most four jobs.
 fn row_norm(norms: &[u16; 24], row: &[u8]) -> u16

@@ -27,11 +27,7 @@ pub record GoodRule (n : ℕ) (r : Rule) : Type 0 where
   pub few : length (r .after) ≤ 4
   pub after : all-below n (r .after) ≡ true
 
--- what the function for a part of a rule gives: the part, as a byte
-pub record IsByte (part r : ℕ) : Type 0 where
-  pub is : r ≡ part
-  pub small : r < 256
-
+-- how many jobs stand after a rule
 pub record IsCount (part r : ℕ) : Type 0 where
   pub is : r ≡ part
   pub few : r ≤ 4

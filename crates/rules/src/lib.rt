@@ -1,16 +1,11 @@
 // Rules as 8 bytes each: one function for each part of a rule.
+use area::wide;
 ghost use mathlib.Core.Path.{_≡_};
 ghost use Prim.Native.Nat.{_<_};
 ghost use lib.ListN.{length};
+ghost use Rattle.area.specs.Areas.{IsByte};
 ghost use Rattle.rules.specs.Places.{rule-at, rule-count};
-ghost use Rattle.rules.specs.Lists.{HasPlace, IsByte, IsCount};
-
-// A byte as a number.
-pub fn wide(b: u8) -> usize
-    ensures { λ r. ⌜ IsByte b r ⌝ }
-{
-    b as usize
-}
+ghost use Rattle.rules.specs.Lists.{HasPlace, IsCount};
 
 // How many rules a list holds.
 pub fn rule_total(rules: &[u8]) -> usize

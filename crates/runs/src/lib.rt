@@ -66,7 +66,7 @@ fn run_job(
     let mut top: usize = 511;
     let mut to = at;
     while top < 512 {
-        let rule = rules::wide(low[rules::wide(stack[top])]);
+        let rule = area::wide(low[area::wide(stack[top])]);
         out[to] = rules::rule_move(rules, rule) as u8;
         to += 1;
         let after = rules::rule_after(rules, rule);
@@ -88,7 +88,7 @@ fn run_plan(jobs: usize, rules: &[u8], low: &[u8; 24], plan: &[u8], out: &mut [u
     while 0 < rest {
         let k = plan.len() - rest;
         rest -= 1;
-        to = run_job(jobs, rules, low, rules::wide(plan[k]), out, to);
+        to = run_job(jobs, rules, low, area::wide(plan[k]), out, to);
     }
     to
 }

@@ -57,16 +57,16 @@ wide-requires : tie.Need-wide-requires Inv-loop μ-loop
 wide-requires c κs = search needs
 
 mul-i : tie.Need-mul-i Inv-loop μ-loop
-mul-i c = omega (arith, in-base (c .before .before .before) (c .before .before .loop-test .taken) (c .wide .result) (c .wide .ensures))
+mul-i c = omega (arith, in-base (c .before .before .before) (c .before .before .loop-test .taken) (c .wide .result) (c .wide .ensures .is))
 
 add-i : tie.Need-add-i Inv-loop μ-loop
-add-i c = omega (arith, in-base (c .before .before .before) (c .before .before .loop-test .taken) (c .wide .result) (c .wide .ensures))
+add-i c = omega (arith, in-base (c .before .before .before) (c .before .before .loop-test .taken) (c .wide .result) (c .wide .ensures .is))
 
 add-k : tie.Need-add-k Inv-loop μ-loop
 add-k c = omega (arith, row (c .before .before .before) (c .before .before .loop-test .taken))
 
 element-copy-out-if1 : tie.Need-element-copy-out-if1 Inv-loop μ-loop
-element-copy-out-if1 c = in-base (c .before .before .before) (c .before .before .loop-test .taken) (c .wide .result) (c .wide .ensures)
+element-copy-out-if1 c = in-base (c .before .before .before) (c .before .before .loop-test .taken) (c .wide .result) (c .wide .ensures .is)
 
 loop-less : tie.Need-loop-less Inv-loop μ-loop
 loop-less c = omega (arith, c .before .before .before .before .loop-test .taken)
@@ -76,7 +76,7 @@ loop-again c =
     let at = c .before .before .before .before .before in
     let job = c .before .before .wide in
     pass-on (jobs at) (rs at) (ns at) (ord at) (start at .args .base .now) (start at .args .area .now) (at .loop .base) (at .loop .area) (at .loop .dropped) (at .loop .k)
-    (at .loop .inv) (at .loop .area) (at .loop .inv .remembered) refl (job .result) (job .ensures) (λ e. absurd (omega (arith, c .if1 .taken)))
+    (at .loop .inv) (at .loop .area) (at .loop .inv .remembered) refl (job .result) (job .ensures .is) (λ e. absurd (omega (arith, c .if1 .taken)))
 
 fits-requires : tie.Need-fits-requires Inv-loop μ-loop
 fits-requires c κs =
@@ -100,10 +100,10 @@ loop-again-2 c =
     let job = c .before .before .before .before .before .before .before .before .wide in
     let d = c .before .before .before .fits2 in
     pass-on (jobs at) (rs at) (ns at) (ord at) (start at .args .base .now) (start at .args .area .now) (at .loop .base) (at .loop .area) (at .loop .dropped) (at .loop .k)
-    (at .loop .inv) (d .last .1 .1 .1 .1 .1 .1 .1 .1 .1 .1 .0) (d .ensures .remembered) (d .kept .1 .1 .1 .1 .1 .1 .1 .1 .1 .1 .0) (job .result) (job .ensures) (λ e. sym (d .ensures .is) ∙ c .if2 .taken)
+    (at .loop .inv) (d .last .1 .1 .1 .1 .1 .1 .1 .1 .1 .1 .0) (d .ensures .remembered) (d .kept .1 .1 .1 .1 .1 .1 .1 .1 .1 .1 .0) (job .result) (job .ensures .is) (λ e. sym (d .ensures .is) ∙ c .if2 .taken)
 
 element-write-base : tie.Need-element-write-base Inv-loop μ-loop
-element-write-base c = in-base (c .before .before .before .before .before .before .before .before .before .before .before) (c .before .before .before .before .before .before .before .before .before .before .loop-test .taken) (c .before .before .before .before .before .before .before .before .wide .result) (c .before .before .before .before .before .before .before .before .wide .ensures)
+element-write-base c = in-base (c .before .before .before .before .before .before .before .before .before .before .before) (c .before .before .before .before .before .before .before .before .before .before .loop-test .taken) (c .before .before .before .before .before .before .before .before .wide .result) (c .before .before .before .before .before .before .before .before .wide .ensures .is)
 
 loop-less-3 : tie.Need-loop-less-3 Inv-loop μ-loop
 loop-less-3 c = omega (arith, c .before .before .before .before .before .before .before .before .before .before .loop-test .taken)
@@ -115,7 +115,7 @@ loop-again-3 c =
     let d = c .before .before .before .fits2 in
     pass-drop (jobs at) (rs at) (ns at) (ord at) (start at .args .base .now) (start at .args .area .now) (at .loop .base) (at .loop .area) (at .loop .dropped) (at .loop .k)
     (at .loop .inv) (d .last .1 .1 .1 .1 .1 .1 .1 .1 .1 .1 .0) (d .ensures .remembered) (d .kept .1 .1 .1 .1 .1 .1 .1 .1 .1 .1 .0) (start at .pre .0 .ready .list) (start at .pre .0 .ready .good) (job .result)
-    (in-base at (c .before .before .before .before .before .before .before .before .before .before .loop-test .taken) (job .result) (job .ensures)) (above-zero _ (c .before .before .before .before .before .before .if1 .left)) (sym (d .ensures .is) ∙ c .if2 .left)
+    (in-base at (c .before .before .before .before .before .before .before .before .before .before .loop-test .taken) (job .result) (job .ensures .is)) (above-zero _ (c .before .before .before .before .before .before .if1 .left)) (sym (d .ensures .is) ∙ c .if2 .left)
 
 same-length : tie.Need-same-length Inv-loop μ-loop
 same-length c = c .before .loop .inv .size

@@ -52,7 +52,7 @@ loop-holds c =
     let job = start .args .mine in
     let few : job < 24 = omega (arith, start .pre .1 .0 .job, start .pre .0 .ready .list .jobs) in (
       walk-start rs first next (start .pre .0 .chains) job _ _ (c .before .before .rule-total .result) (start .args .top) (start .args .buffer .now) (start .args .area .now)
-          (c .wide .result) (c .wide .ensures) few (c .before .before .rule-total .ensures)
+          (c .wide .result) (c .wide .ensures .is) few (c .before .before .rule-total .ensures)
           (ap (λ (l : List Move). all-answered (by-base (start .args .jobs) rs (start .args .norms .now) (start .args .base .now)) l (job-moves (start .args .other) (far (start .args .forward) plan) (all-rules rs)))
           (moves-start rs first next (start .pre .0 .chains) job (near (start .args .forward) plan) few)),
       start .pre .1 .1 .1 .1 .0,
@@ -149,13 +149,13 @@ loop-less : tie.Need-loop-less Inv-loop μ-loop
 loop-less c =
     let at = c .before .before .before .before .before in
     let h = c .before .before .before .before .loop-test .taken in
-    omega (arith, c .before .before .wide2 .ensures, rises at h, h)
+    omega (arith, c .before .before .wide2 .ensures .is, rises at h, h)
 
 loop-again : tie.Need-loop-again Inv-loop μ-loop
 loop-again c =
     let at = c .before .before .before .before .before in
     let h = c .before .before .before .before .loop-test .taken in (
-      goes-on at h (c .before .before .wide2 .result) (c .before .before .wide2 .ensures) (at .loop .inv .2 .own (at .loop .r) (here at h) (c .if1 .taken) (mine-rule at h))
+      goes-on at h (c .before .before .wide2 .result) (c .before .before .wide2 .ensures .is) (at .loop .inv .2 .own (at .loop .r) (here at h) (c .if1 .taken) (mine-rule at h))
           (at .loop .buffer) (at .loop .area) (kept-same (start at .args .top) (at .loop .buffer)) refl,
       at .loop .inv .1,
       at .loop .inv .2,
@@ -201,7 +201,7 @@ module _ (c : tie.After-wide3 Inv-loop μ-loop) where
       subst (λ (l : List ℕ). Answering (start turn .args .jobs) (rs turn) (ns turn) (start turn .args .base .now) (start turn .args .forward) (turn .loop .r) (start turn .args .other) l (c .wide3 .result))
       (turn .loop .inv .0 .kept .plan)
       (subst (Answering (start turn .args .jobs) (rs turn) (ns turn) (start turn .args .base .now) (start turn .args .forward) (turn .loop .r) (start turn .args .other) (drop (start turn .args .top) (turn .loop .buffer)))
-      (sym (c .wide3 .ensures ∙ byte-read (c .before .before .before .before .before .answered .last .1 .1 .1 .1 .1 .1 .1 .1 .1 .1 .1 .1 .1 .1 .0) (252 * start turn .args .other + turn .loop .r))) (c .before .before .before .before .before .answered .ensures .found (c .before .before .if2 .taken)))
+      (sym (c .wide3 .ensures .is ∙ byte-read (c .before .before .before .before .before .answered .last .1 .1 .1 .1 .1 .1 .1 .1 .1 .1 .1 .1 .1 .1 .0) (252 * start turn .args .other + turn .loop .r))) (c .before .before .before .before .before .answered .ensures .found (c .before .before .if2 .taken)))
 
 element-write-known : tie.Need-element-write-known Inv-loop μ-loop
 element-write-known c = omega (arith, answering c .inside, start (turn c) .pre .0 .ready .list .few)
@@ -210,14 +210,14 @@ loop-less-2 : tie.Need-loop-less-2 Inv-loop μ-loop
 loop-less-2 c =
     let at = c .before .before .before .before .before .before .before .before .before .before .before .before .before in
     let h = c .before .before .before .before .before .before .before .before .before .before .before .before .loop-test .taken in
-    omega (arith, c .before .before .before .before .before .before .before .before .before .before .wide2 .ensures, rises at h, h)
+    omega (arith, c .before .before .before .before .before .before .before .before .before .before .wide2 .ensures .is, rises at h, h)
 
 loop-again-2 : tie.Need-loop-again-2 Inv-loop μ-loop
 loop-again-2 c =
     let at = turn c in
     let said = c .before .before .before .before .before .answered in
     let h = c .before .before .before .before .before .before .before .before .before .before .before .before .loop-test .taken in (
-      goes-on at h (c .before .before .before .before .before .before .before .before .before .before .wide2 .result) (c .before .before .before .before .before .before .before .before .before .before .wide2 .ensures) (tells at h true (sym (c .before .before .if2 .taken) ∙ said .ensures .told .is))
+      goes-on at h (c .before .before .before .before .before .before .before .before .before .before .wide2 .result) (c .before .before .before .before .before .before .before .before .before .before .wide2 .ensures .is) (tells at h true (sym (c .before .before .if2 .taken) ∙ said .ensures .told .is))
           _ _ (said .ensures .told .kept) (said .kept .1 .1 .1 .1 .1 .1 .1 .1 .1 .1 .1 .1 .1 .1 .0),
       said .ensures .remembered,
       known-more (start at .args .jobs) (rs at) (ns at) (start at .args .base .now) (start at .args .forward) (start at .args .mine) (start at .args .other)

@@ -32,20 +32,20 @@ element-copy-out-n : tie.Need-element-copy-out-n Inv-loop μ-loop
 element-copy-out-n c =
     let a = c .before .before .before .before .before .args in
     let pre = c .before .before .before .before .before .pre in
-    omega (arith, c .wide .ensures .0, below-at 24 (a .plan .now) (c .before .before .before .loop .k) (pre .0) (omega arith))
+    omega (arith, c .wide .ensures .is, below-at 24 (a .plan .now) (c .before .before .before .loop .k) (pre .0) (omega arith))
 
 cast-n : tie.Need-cast-n Inv-loop μ-loop
 cast-n c =
     let v = c .before .before .before .before .loop in
     let a = c .before .before .before .before .before .before .args in
-    let e = ap (λ (j : ℕ). getD (a .lens .now) j 0) (c .before .wide .ensures .0) in
+    let e = ap (λ (j : ℕ). getD (a .lens .now) j 0) (c .before .wide .ensures .is) in
     omega (arith, sum-at (a .lens .now) (a .plan .now) (v .k) (omega arith))
 
 add-n : tie.Need-add-n Inv-loop μ-loop
 add-n c =
     let v = c .before .before .before .before .loop in
     let a = c .before .before .before .before .before .before .args in
-    let e = ap (λ (j : ℕ). getD (a .lens .now) j 0) (c .before .wide .ensures .0) in
+    let e = ap (λ (j : ℕ). getD (a .lens .now) j 0) (c .before .wide .ensures .is) in
     omega (arith, sum-at (a .lens .now) (a .plan .now) (v .k) (omega arith))
 
 add-k : tie.Need-add-k Inv-loop μ-loop
@@ -58,7 +58,7 @@ loop-again : tie.Need-loop-again Inv-loop μ-loop
 loop-again c =
     let v = c .before .before .before .before .loop in
     let a = c .before .before .before .before .before .before .args in
-    let e = ap (λ (j : ℕ). getD (a .lens .now) j 0) (c .before .wide .ensures .0) in
+    let e = ap (λ (j : ℕ). getD (a .lens .now) j 0) (c .before .wide .ensures .is) in
     (omega arith, omega (arith, sum-at (a .lens .now) (a .plan .now) (v .k) (omega arith)))
 
 returns : tie.Need-returns Inv-loop μ-loop

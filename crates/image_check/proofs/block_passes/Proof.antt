@@ -73,7 +73,7 @@ returns-2 c =
     let args = start .args in
     let count-is : length (args .image .now) ≡ 512 * args .count = omega arith in
     c .head-good .ensures
-    ∙ rw (block-part (args .image .now) (args .k), c .before .before .before .wide .ensures .0)
+    ∙ rw (block-part (args .image .now) (args .k), c .before .before .before .wide .ensures .is)
     (sym (by-head (args .check) (args .image .now) (args .k) (args .count) count-is (c .before .before .before .before .before .if1 .left) (c .before .before .if2 .taken)))
 
 sub-block-good : tie.Need-sub-block-good
@@ -96,7 +96,7 @@ returns-3 : tie.Need-returns-3
 returns-3 c =
     let args = c .before .before .before .before .before .before .before .args in
     c .block-good .ensures
-    ∙ rw (block-part (args .image .now) (args .k), c .before .before .before .wide .ensures .0)
+    ∙ rw (block-part (args .image .now) (args .k), c .before .before .before .wide .ensures .is)
     (sym (by-places (args .check) (args .image .now) (args .k) (c .before .before .if2 .left)))
 
 pub block-passes-spec : {M : Type 1} → statement M

@@ -230,7 +230,7 @@ wide-requires : tie.Need-wide-requires Inv-loop μ-loop
 wide-requires c κs = search needs
 
 loop-less : tie.Need-loop-less Inv-loop μ-loop
-loop-less c = omega (arith, c .wide .ensures, rises (c .before .before .before .before .before .before .before .before .before) (c .before .before .before .before .before .before .before .before .loop-test .taken), c .before .before .before .before .before .before .before .before .loop-test .taken)
+loop-less c = omega (arith, c .wide .ensures .is, rises (c .before .before .before .before .before .before .before .before .before) (c .before .before .before .before .before .before .before .before .loop-test .taken), c .before .before .before .before .before .before .before .before .loop-test .taken)
 
 loop-again : tie.Need-loop-again Inv-loop μ-loop
 loop-again c =
@@ -241,7 +241,7 @@ loop-again c =
     let e = entry at in
     let first = e .args .first .now in
     let next = e .args .next .now in
-    let to = c .wide .ensures in (
+    let to = c .wide .ensures .is in (
       record {
         count = so-far at .count;
         on = subst (OnChain (rs e) (e .args .other)) (sym to) (chain-next (rs e) first next (e .pre .0 .chains) (e .args .other) (at .loop .k) (here at h) (so-far at .on));

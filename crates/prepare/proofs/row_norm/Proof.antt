@@ -30,13 +30,13 @@ in-table : (c : tie.After-wide Inv-loop μ-loop) → c .wide .result < 24
 in-table c =
     let at-loop = c .before .before .before in
     let start = at-loop .before .before in
-    omega (arith, start .pre .below (at-loop .loop .i) (c .before .before .loop-test .taken), c .wide .ensures)
+    omega (arith, start .pre .below (at-loop .loop .i) (c .before .before .loop-test .taken), c .wide .ensures .is)
 
 most-at : (c : tie.After-wide Inv-loop μ-loop) → getD (c .before .before .before .before .before .args .norms .now) (c .wide .result) 0 ≤ 512
 most-at c =
     let at-loop = c .before .before .before in
     let start = at-loop .before .before in
-    subst (λ (j : ℕ). getD (start .args .norms .now) j 0 ≤ 512) (sym (c .wide .ensures))
+    subst (λ (j : ℕ). getD (start .args .norms .now) j 0 ≤ 512) (sym (c .wide .ensures .is))
     (start .pre .most (at-loop .loop .i) (c .before .before .loop-test .taken))
 
 -- one job more of the row
@@ -66,7 +66,7 @@ loop-again c =
     let ns = start .args .norms .now in
     let row = start .args .row .now in
     let i = at-loop .loop .i in
-    let same = ap (λ (j : ℕ). getD ns j 0) (c .before .wide .ensures) in
+    let same = ap (λ (j : ℕ). getD ns j 0) (c .before .wide .ensures .is) in
     omega (arith, most-at (c .before), sum-cons ns row i (c .before .before .before .loop-test .taken))
 
 returns : tie.Need-returns Inv-loop μ-loop

@@ -35,7 +35,7 @@ add-if1 c = omega arith
 element-copy-out-if1 : tie.Need-element-copy-out-if1 Inv-loop μ-loop
 element-copy-out-if1 c =
     let s = c .before .before .before .before in
-    omega (arith, c .wide .ensures .0, s .pre .2 (c .before .before .before .loop .k) (omega arith))
+    omega (arith, c .wide .ensures .is, s .pre .2 (c .before .before .before .loop .k) (omega arith))
 
 returns : tie.Need-returns Inv-loop μ-loop
 unfolding byte-base
@@ -46,7 +46,7 @@ returns c =
     record {
       inside = omega arith;
       passed = v .inv .1;
-      held = λ _. rw (← x .ensures .0) (lt-ltb 0 (getD (a .base .now) (24 * a .y + x .result) 0) (c .if1 .taken));
+      held = λ _. rw (← x .ensures .is) (lt-ltb 0 (getD (a .base .now) (24 * a .y + x .result) 0) (c .if1 .taken));
     }
 
 add-k : tie.Need-add-k Inv-loop μ-loop
@@ -61,7 +61,7 @@ loop-again c =
     let v = c .before .before .before .before .before .loop in
     let a = c .before .before .before .before .before .before .args in
     let x = c .before .before .wide in
-    (omega arith, below-more _ _ (v .inv .1) (rw (← x .ensures .0) (le-ltb 0 (getD (a .base .now) (24 * a .y + x .result) 0) (c .if1 .left))))
+    (omega arith, below-more _ _ (v .inv .1) (rw (← x .ensures .is) (le-ltb 0 (getD (a .base .now) (24 * a .y + x .result) 0) (c .if1 .left))))
 
 returns-2 : tie.Need-returns-2 Inv-loop μ-loop
 returns-2 c =

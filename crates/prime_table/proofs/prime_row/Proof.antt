@@ -30,7 +30,7 @@ first-held-requires c κs =
     let below = place-below (a .norms .now) (a .ord .now) (a .jobs) (s .pre .1 .0 .order) in
     let n : a .jobs ≤ 24 = s .pre .0 .list .jobs in
     let h : a .i < a .jobs = s .pre .1 .0 .inside in
-    (omega (arith, below (a .i) h, c .wide .ensures .0), omega arith, λ k l. omega (arith, below k (omega arith)))
+    (omega (arith, below (a .i) h, c .wide .ensures .is), omega arith, λ k l. omega (arith, below k (omega arith)))
 
 element-copy-out-out : tie.Need-element-copy-out-out
 element-copy-out-out c = omega (arith, c .before .before .before .before .before .before .before .pre .0 .list .jobs, c .before .before .before .before .before .before .before .pre .1 .0 .inside)
@@ -47,7 +47,7 @@ returns c =
     let s = c .before .before .before .before .before .before .before .before in
     let a = s .args in
     let r = c .before .before .first-held .result in
-    let f = subst (λ (y : ℕ). FirstHeld (byte-base (a .base .now) y) (a .ord .now) (a .i) r) (c .before .before .before .wide .ensures .0) (c .before .before .first-held .ensures) in
+    let f = subst (λ (y : ℕ). FirstHeld (byte-base (a .base .now) y) (a .ord .now) (a .i) r) (c .before .before .before .wide .ensures .is) (c .before .before .first-held .ensures) in
     alone (table-of (a .jobs) (a .rules .now)) (a .norms .now) (s .pre .0 .good) (byte-base (a .base .now)) (a .ord .now) (a .lens .now) (a .rows .now) (s .pre .0 .list .jobs) (s .pre .1 .0 .order) (s .pre .0 .small) (a .i) (s .pre .1 .0 .inside) (s .pre .1 .1 .0) r f (c .before .if1 .taken) (a .out .now) (s .pre .1 .1 .1)
 
 element-copy-out-wide-2 : tie.Need-element-copy-out-wide-2
@@ -68,11 +68,11 @@ candidate-requires c κs =
     let s = c .before .before .before .before .before .before .before .before .before .before .before in
     let a = s .args in
     let r = c .before .before .before .before .before .first-held .result in
-    let f = subst (λ (y : ℕ). FirstHeld (byte-base (a .base .now) y) (a .ord .now) (a .i) r) (c .before .before .before .before .before .before .wide .ensures .0) (c .before .before .before .before .before .first-held .ensures) in
+    let f = subst (λ (y : ℕ). FirstHeld (byte-base (a .base .now) y) (a .ord .now) (a .i) r) (c .before .before .before .before .before .before .wide .ensures .is) (c .before .before .before .before .before .first-held .ensures) in
     let l : r < a .i = omega (arith, f .inside, c .before .before .before .before .if1 .left) in
     let below = place-below (a .norms .now) (a .ord .now) (a .jobs) (s .pre .1 .0 .order) in
-    let y = c .before .before .before .before .before .before .wide .ensures .0 in
-    let x = c .before .before .wide2 .ensures .0 in
+    let y = c .before .before .before .before .before .before .wide .ensures .is in
+    let x = c .before .before .wide2 .ensures .is in
     let h : a .i < a .jobs = s .pre .1 .0 .inside in (
       s .pre .0,
       (
@@ -100,12 +100,12 @@ write-rest-requires c κs =
     let s = c .before .before .before .before .before .before .before .before .before .before .before .before .before .before .before in
     let a = s .args in
     let r = c .before .before .before .before .before .before .before .before .before .first-held .result in
-    let f = subst (λ (y : ℕ). FirstHeld (byte-base (a .base .now) y) (a .ord .now) (a .i) r) (c .before .before .before .before .before .before .before .before .before .before .wide .ensures .0) (c .before .before .before .before .before .before .before .before .before .first-held .ensures) in
+    let f = subst (λ (y : ℕ). FirstHeld (byte-base (a .base .now) y) (a .ord .now) (a .i) r) (c .before .before .before .before .before .before .before .before .before .before .wide .ensures .is) (c .before .before .before .before .before .before .before .before .before .first-held .ensures) in
     let l : r < a .i = omega (arith, f .inside, c .before .before .before .before .before .before .before .before .if1 .left) in
     let p =
     ends-part (c .before .before .before .candidate .last .1 .1 .1 .1 .1 .1 .0) (candidate (table-of (a .jobs) (a .rules .now)) (a .norms .now) (c .before .before .before .before .before .before .before .before .before .before .wide .result) (c .before .before .before .before .before .before .wide2 .result)) (c .before .before .before .candidate .result) (c .before .before .before .candidate .ensures)
-    ∙ ap (λ (y : ℕ). candidate (table-of (a .jobs) (a .rules .now)) (a .norms .now) y (c .before .before .before .before .before .before .wide2 .result)) (c .before .before .before .before .before .before .before .before .before .before .wide .ensures .0)
-    ∙ ap (candidate (table-of (a .jobs) (a .rules .now)) (a .norms .now) (getD (a .ord .now) (a .i) 0)) (c .before .before .before .before .before .before .wide2 .ensures .0) in (
+    ∙ ap (λ (y : ℕ). candidate (table-of (a .jobs) (a .rules .now)) (a .norms .now) y (c .before .before .before .before .before .before .wide2 .result)) (c .before .before .before .before .before .before .before .before .before .before .wide .ensures .is)
+    ∙ ap (candidate (table-of (a .jobs) (a .rules .now)) (a .norms .now) (getD (a .ord .now) (a .i) 0)) (c .before .before .before .before .before .before .wide2 .ensures .is) in (
       subst (Readable (a .lens .now) (a .rows .now)) (sym p) (readable (table-of (a .jobs) (a .rules .now)) (a .norms .now) (s .pre .0 .good) (byte-base (a .base .now)) (a .ord .now) (a .lens .now) (a .rows .now) (s .pre .0 .list .jobs) (s .pre .1 .0 .order) (s .pre .0 .small) (a .i) (s .pre .1 .0 .inside) (s .pre .1 .1 .0) r f l),
       simp length-set (omega (arith, s .pre .1 .1 .1, room (table-of (a .jobs) (a .rules .now)) (a .norms .now) (s .pre .0 .good) (byte-base (a .base .now)) (a .ord .now) (a .lens .now) (a .rows .now) (s .pre .0 .list .jobs) (s .pre .1 .0 .order) (s .pre .0 .small) (a .i) (s .pre .1 .0 .inside) (s .pre .1 .1 .0) r f l, ap (λ (q : List ℕ). length (expand (row (a .lens .now) (a .rows .now)) q)) p)),
     )
@@ -119,12 +119,12 @@ returns-2 c =
     let s = c .before .before .before .before .before .before .before .before .before .before .before .before .before .before .before .before .before .before in
     let a = s .args in
     let r = c .before .before .before .before .before .before .before .before .before .before .before .before .first-held .result in
-    let f = subst (λ (y : ℕ). FirstHeld (byte-base (a .base .now) y) (a .ord .now) (a .i) r) (c .before .before .before .before .before .before .before .before .before .before .before .before .before .wide .ensures .0) (c .before .before .before .before .before .before .before .before .before .before .before .before .first-held .ensures) in
+    let f = subst (λ (y : ℕ). FirstHeld (byte-base (a .base .now) y) (a .ord .now) (a .i) r) (c .before .before .before .before .before .before .before .before .before .before .before .before .before .wide .ensures .is) (c .before .before .before .before .before .before .before .before .before .before .before .before .first-held .ensures) in
     let l : r < a .i = omega (arith, f .inside, c .before .before .before .before .before .before .before .before .before .before .before .if1 .left) in
     let p =
     ends-part (c .before .before .before .before .before .before .candidate .last .1 .1 .1 .1 .1 .1 .0) (candidate (table-of (a .jobs) (a .rules .now)) (a .norms .now) (c .before .before .before .before .before .before .before .before .before .before .before .before .before .wide .result) (c .before .before .before .before .before .before .before .before .before .wide2 .result)) (c .before .before .before .before .before .before .candidate .result) (c .before .before .before .before .before .before .candidate .ensures)
-    ∙ ap (λ (y : ℕ). candidate (table-of (a .jobs) (a .rules .now)) (a .norms .now) y (c .before .before .before .before .before .before .before .before .before .wide2 .result)) (c .before .before .before .before .before .before .before .before .before .before .before .before .before .wide .ensures .0)
-    ∙ ap (candidate (table-of (a .jobs) (a .rules .now)) (a .norms .now) (getD (a .ord .now) (a .i) 0)) (c .before .before .before .before .before .before .before .before .before .wide2 .ensures .0) in
+    ∙ ap (λ (y : ℕ). candidate (table-of (a .jobs) (a .rules .now)) (a .norms .now) y (c .before .before .before .before .before .before .before .before .before .wide2 .result)) (c .before .before .before .before .before .before .before .before .before .before .before .before .before .wide .ensures .is)
+    ∙ ap (candidate (table-of (a .jobs) (a .rules .now)) (a .norms .now) (getD (a .ord .now) (a .i) 0)) (c .before .before .before .before .before .before .before .before .before .wide2 .ensures .is) in
     let w = c .before .before .write-rest in
     let v = expand (row (a .lens .now) (a .rows .now)) (candidate (table-of (a .jobs) (a .rules .now)) (a .norms .now) (getD (a .ord .now) (a .i) 0) (getD (a .ord .now) r 0)) in
     let q = ap (expand (row (a .lens .now) (a .rows .now))) p in

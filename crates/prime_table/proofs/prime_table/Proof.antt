@@ -44,7 +44,7 @@ prime-row-requires c κs =
     (s .pre .0, (record { inside = c .before .before .before .before .before .loop-test .taken; order = s .pre .1 .0 }, (v .inv .2, v .inv .1)))
 
 mul-put : tie.Need-mul-put Inv-loop μ-loop
-mul-put c = omega (arith, c .before .before .before .before .before .before .wide .ensures .1)
+mul-put c = omega (arith, c .before .before .before .before .before .before .wide .ensures .small)
 
 sub-put : tie.Need-sub-put Inv-loop μ-loop
 sub-put c = omega arith
@@ -67,7 +67,7 @@ put-requires c κs =
       v .inv .2 .size,
       p .ensures .short,
       p .ensures .size,
-      c .before .before .before .before .before .before .before .before .wide .ensures .0,
+      c .before .before .before .before .before .before .before .before .wide .ensures .is,
       place-below (s .args .norms .now) (s .args .ord .now) (s .args .jobs) (s .pre .1 .0) (c .before .before .before .before .before .before .before .before .before .before .before .loop .i) (c .before .before .before .before .before .before .before .before .before .before .loop-test .taken),
     ))
 
@@ -75,12 +75,12 @@ cast-lens : tie.Need-cast-lens Inv-loop μ-loop
 cast-lens c = omega (arith, c .before .before .before .before .before .before .before .prime-row .ensures .short)
 
 mul-lens : tie.Need-mul-lens Inv-loop μ-loop
-mul-lens c = omega (arith, c .before .before .before .before .before .before .before .before .before .before .before .wide .ensures .1)
+mul-lens c = omega (arith, c .before .before .before .before .before .before .before .before .before .before .before .wide .ensures .small)
 
 element-write-lens : tie.Need-element-write-lens Inv-loop μ-loop
 element-write-lens c =
     let s = c .before .before .before .before .before .before .before .before .before .before .before .before .before .before .before .before .before in
-    omega (arith, s .pre .0 .list .jobs, c .before .before .before .before .before .before .before .before .before .before .before .wide .ensures .0, place-below (s .args .norms .now) (s .args .ord .now) (s .args .jobs) (s .pre .1 .0) (c .before .before .before .before .before .before .before .before .before .before .before .before .before .before .loop .i) (c .before .before .before .before .before .before .before .before .before .before .before .before .before .loop-test .taken))
+    omega (arith, s .pre .0 .list .jobs, c .before .before .before .before .before .before .before .before .before .before .before .wide .ensures .is, place-below (s .args .norms .now) (s .args .ord .now) (s .args .jobs) (s .pre .1 .0) (c .before .before .before .before .before .before .before .before .before .before .before .before .before .before .loop .i) (c .before .before .before .before .before .before .before .before .before .before .before .before .before .loop-test .taken))
 
 add-i : tie.Need-add-i Inv-loop μ-loop
 add-i c = omega (arith, c .before .before .before .before .before .before .before .before .before .before .before .before .before .before .before .before .before .pre .0 .list .jobs, c .before .before .before .before .before .before .before .before .before .before .before .before .before .loop-test .taken)
@@ -105,10 +105,10 @@ loop-again c =
     let wrote : region ≡ put (512 * j) (take (p .result) area) (v .rows) =
     c .before .before .put .ensures .output
     ∙ ap (λ (m : ℕ). put (512 * y .result) (take m area) (v .rows)) (sub-zero (p .result))
-    ∙ ap (λ (q : ℕ). put (512 * q) (take (p .result) area) (v .rows)) (y .ensures .0) in (
+    ∙ ap (λ (q : ℕ). put (512 * q) (take (p .result) area) (v .rows)) (y .ensures .is) in (
       omega arith,
       p .ensures .size,
-      subst (λ (q : ℕ). Built t (a .norms .now) b (a .ord .now) (set (v .lens) q (p .result)) region (v .i + 1)) (sym (y .ensures .0))
+      subst (λ (q : ℕ). Built t (a .norms .now) b (a .ord .now) (set (v .lens) q (p .result)) region (v .i + 1)) (sym (y .ensures .is))
           (subst (λ (l : List ℕ). Built t (a .norms .now) b (a .ord .now) (set (v .lens) j (p .result)) l (v .i + 1)) (sym wrote)
           (built-more t (a .norms .now) b (a .ord .now) (s .pre .0 .list .jobs) (s .pre .1 .0) (v .i) h (v .lens) (v .rows) area (p .result) (v .inv .2) (p .ensures))),
     )

@@ -42,7 +42,7 @@ parts c =
     let job = getD (args .block .now) 0 0 in
     let low : 1 ≤ job = omega arith in
     let high : job ≤ 24 = omega arith in
-    rest (args .jobs) (args .count) (args .k) (args .block .now) low high (sym (c .before .before .before .wide .ensures .0) ∙ c .if3 .left)
+    rest (args .jobs) (args .count) (args .k) (args .block .now) low high (sym (c .before .before .before .wide .ensures .is) ∙ c .if3 .left)
 
 shared-slice-read-wide : tie.Need-shared-slice-read-wide
 shared-slice-read-wide c = search needs
@@ -74,7 +74,7 @@ returns-3 c =
     let job = getD x 0 0 in
     let low : 1 ≤ job = omega arith in
     let high : job ≤ 24 = omega arith in
-    sym (other-jobs (start .args .jobs) (start .args .count) (start .args .k) x low high (λ same. c .if3 .taken (c .before .before .before .wide .ensures .0 ∙ same)))
+    sym (other-jobs (start .args .jobs) (start .args .count) (start .args .k) x low high (λ same. c .if3 .taken (c .before .before .before .wide .ensures .is ∙ same)))
 
 shared-slice-read-wide-2 : tie.Need-shared-slice-read-wide-2
 shared-slice-read-wide-2 c = search needs
@@ -95,7 +95,7 @@ returns-4 : tie.Need-returns-4
 returns-4 c =
     let here = c .before .before .before .before .before .before in
     let args = here .before .before .before .before .before .before .args in
-    let fits = ap (rules-fit (eqb (args .k + 1) (args .count))) (sym (c .before .before .before .before .wide2 .ensures .0)) ∙ sym (c .before .before .before .rules-fit .ensures) in
+    let fits = ap (rules-fit (eqb (args .k + 1) (args .count))) (sym (c .before .before .before .before .wide2 .ensures .is)) ∙ sym (c .before .before .before .rules-fit .ensures) in
     let other : number-at 506 (args .block .now) ≡ args .k → ⊥ = λ same. c .if5 .taken (c .before .number-at .ensures ∙ same) in
     sym (parts here ∙ rw (fits ∙ c .before .before .if4 .taken, ne-eqb (number-at 506 (args .block .now)) (args .k) other))
 
@@ -106,7 +106,7 @@ returns-5 : tie.Need-returns-5
 returns-5 c =
     let here = c .before .before .before .before .before .before .before in
     let args = here .before .before .before .before .before .before .args in
-    let fits = ap (rules-fit (eqb (args .k + 1) (args .count))) (sym (c .before .before .before .before .before .wide2 .ensures .0)) ∙ sym (c .before .before .before .before .rules-fit .ensures) in
+    let fits = ap (rules-fit (eqb (args .k + 1) (args .count))) (sym (c .before .before .before .before .before .wide2 .ensures .is)) ∙ sym (c .before .before .before .before .rules-fit .ensures) in
     let same : number-at 506 (args .block .now) ≡ args .k = sym (c .before .before .number-at .ensures) ∙ c .before .if5 .left in
     sym (parts here ∙ rw (fits ∙ c .before .before .before .if4 .taken, eq-eqb (number-at 506 (args .block .now)) (args .k) same, sym (c .number-at2 .ensures)))
 
@@ -114,7 +114,7 @@ returns-6 : tie.Need-returns-6
 returns-6 c =
     let here = c .before .before .before .before in
     let args = here .before .before .before .before .before .before .args in
-    let fits = ap (rules-fit (eqb (args .k + 1) (args .count))) (sym (c .before .before .wide2 .ensures .0)) ∙ sym (c .before .rules-fit .ensures) in
+    let fits = ap (rules-fit (eqb (args .k + 1) (args .count))) (sym (c .before .before .wide2 .ensures .is)) ∙ sym (c .before .rules-fit .ensures) in
     sym (parts here ∙ rw (fits ∙ c .if4 .left))
 
 pub head-good-spec : {M : Type 1} → statement M

@@ -69,14 +69,14 @@ returns : tie.Need-returns
 returns c =
     let start = c .before .before .before .before .before .before .before .before in
     let r = c .before .before .before .before .before .wide .result in
-    let e = c .before .before .before .before .before .wide .ensures .0 in
+    let e = c .before .before .before .before .before .wide .ensures .is in
     c .all-zero .ensures ∙ sym (parts (start .args .jobs) (start .args .block .now) r (start .pre .0) e ∙ rw (sym (c .before .before .before .places-good .ensures) ∙ c .before .before .if1 .taken))
 
 returns-2 : tie.Need-returns-2
 returns-2 c =
     let start = c .before .before .before .before .before .before in
     let r = c .before .before .before .wide .result in
-    let e = c .before .before .before .wide .ensures .0 in
+    let e = c .before .before .before .wide .ensures .is in
     sym (parts (start .args .jobs) (start .args .block .now) r (start .pre .0) e ∙ rw (sym (c .before .places-good .ensures) ∙ c .if1 .left))
 
 pub block-good-spec : {M : Type 1} → statement M

@@ -131,8 +131,8 @@ returns c =
     let self = start .args .self in
     let block = start .args .block .now in
     let more = c .before .before .before .before .before .wide2 in (
-      (c .before .before .before .before .before .before .before .wide .ensures .0, refl),
-      took (self .count) (more .result) (self .block) (self .rules) block (c .before .copy .last .1 .0) (start .pre) (more .ensures .0) (c .before .copy .ensures .1),
+      (c .before .before .before .before .before .before .before .wide .ensures .is, refl),
+      took (self .count) (more .result) (self .block) (self .rules) block (c .before .copy .last .1 .0) (start .pre) (more .ensures .is) (c .before .copy .ensures .1),
     )
 
 pub take-block-spec : {M : Type 1} → statement M

@@ -28,7 +28,7 @@ wide-requires : tie.Need-wide-requires Inv-loop μ-loop
 wide-requires c κs = search needs
 
 mul-start : tie.Need-mul-start Inv-loop μ-loop
-mul-start c = omega (arith, c .wide .ensures .1)
+mul-start c = omega (arith, c .wide .ensures .small)
 
 mul-len : tie.Need-mul-len Inv-loop μ-loop
 mul-len c = omega arith
@@ -38,21 +38,21 @@ element-copy-out-len c =
     let v = c .before .before .before .loop in
     let s = c .before .before .before .before .before .before .before in
     let a = s .args in
-    omega (arith, job-small (a .lens .now) (a .rows .now) (a .plan .now) (s .pre .0) (v .i) (omega arith) (c .wide .result) (c .wide .ensures .0))
+    omega (arith, job-small (a .lens .now) (a .rows .now) (a .plan .now) (s .pre .0) (v .i) (omega arith) (c .wide .result) (c .wide .ensures .is))
 
 cast-len : tie.Need-cast-len Inv-loop μ-loop
 cast-len c =
     let v = c .before .before .before .before .loop in
     let s = c .before .before .before .before .before .before .before .before in
     let a = s .args in
-    omega (arith, row-short (a .lens .now) (a .rows .now) (a .plan .now) (s .pre .0) (v .i) (omega arith) (c .before .wide .result) (c .before .wide .ensures .0))
+    omega (arith, row-short (a .lens .now) (a .rows .now) (a .plan .now) (s .pre .0) (v .i) (omega arith) (c .before .wide .result) (c .before .wide .ensures .is))
 
 add-stop : tie.Need-add-stop Inv-loop μ-loop
 add-stop c =
     let v = c .before .before .before .before .loop in
     let s = c .before .before .before .before .before .before .before .before in
     let a = s .args in
-    omega (arith, row-short (a .lens .now) (a .rows .now) (a .plan .now) (s .pre .0) (v .i) (omega arith) (c .before .wide .result) (c .before .wide .ensures .0), c .before .wide .ensures .1)
+    omega (arith, row-short (a .lens .now) (a .rows .now) (a .plan .now) (s .pre .0) (v .i) (omega arith) (c .before .wide .result) (c .before .wide .ensures .is), c .before .wide .ensures .small)
 
 sub-put : tie.Need-sub-put Inv-loop μ-loop
 sub-put c = omega arith
@@ -65,7 +65,7 @@ part-put-end c =
     let v = c .before .before .before .before .before .loop in
     let s = c .before .before .before .before .before .before .before .before .before in
     let a = s .args in
-    omega (arith, row-room (a .lens .now) (a .rows .now) (a .plan .now) (s .pre .0) (v .i) (omega arith) (c .before .before .wide .result) (c .before .before .wide .ensures .0))
+    omega (arith, row-room (a .lens .now) (a .rows .now) (a .plan .now) (s .pre .0) (v .i) (omega arith) (c .before .before .wide .result) (c .before .before .wide .ensures .is))
 
 put-requires : tie.Need-put-requires Inv-loop μ-loop
 put-requires c κs =
@@ -73,7 +73,7 @@ put-requires c κs =
     let s = c .before .before .before .before .before .before .before .before .before .before in
     let a = s .args in
     let x = c .before .before .before .wide in
-    let is = row-part (a .lens .now) (a .rows .now) (x .result) ∙ ap (row (a .lens .now) (a .rows .now)) (x .ensures .0) in
+    let is = row-part (a .lens .now) (a .rows .now) (x .result) ∙ ap (row (a .lens .now) (a .rows .now)) (x .ensures .is) in
     let h : v .i < length (a .plan .now) = omega (arith, c .before .before .before .before .before .loop-test .taken) in
     let l = lent (a .lens .now) (a .rows .now) (x .result) in
     row-fits (row (a .lens .now) (a .rows .now)) (a .plan .now) (a .out .now) (a .at) (s .pre .1) (v .out) (v .end) (v .i) (v .inv) h l is
@@ -90,7 +90,7 @@ loop-again c =
     let s = c .before .before .before .before .before .before .before .before .before .before .before .before .before in
     let a = s .args in
     let x = c .before .before .before .before .before .before .wide in
-    let is = row-part (a .lens .now) (a .rows .now) (x .result) ∙ ap (row (a .lens .now) (a .rows .now)) (x .ensures .0) in
+    let is = row-part (a .lens .now) (a .rows .now) (x .result) ∙ ap (row (a .lens .now) (a .rows .now)) (x .ensures .is) in
     let h : v .i < length (a .plan .now) = omega (arith, c .before .before .before .before .before .before .before .before .loop-test .taken) in
     let l = lent (a .lens .now) (a .rows .now) (x .result) in
     let said = c .before .before .put in
