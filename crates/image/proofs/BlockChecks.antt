@@ -3,16 +3,22 @@ use mathlib.Core.Path.{_≡_, refl, sym, ap, _∙_}
 use mathlib.Core.Bool.{true, _&&_}
 use mathlib.Core.List.{List, [], _∷_, _++_, append-assoc, append-nil}
 use Prim.Native.Nat.{ℕ, _+_, _*_, _-_, _/_, _%_, _≤_, _<_}
+use native.Mathlib.Nat.{mod-lt}
 use native.Mathlib.Omega.{arith}
 use lib.ListN.{length, getD, take, drop, replicate, length-append, length-replicate}
 use lib.Seq.{take-at, drop-at, take-all, drop-drop}
+use Rattle.area.specs.Numbers.{number-at, low-first}
+use Rattle.area.proofs.Numbers.{number-there}
 use Rattle.rules.specs.Places.{all-zero, places-good}
-use Rattle.image.specs.Image.{number-at, byte-sum, checksum, rules-in-block, block-places, places-of-block}
-use Rattle.image.specs.Writing.{low-first}
+use Rattle.image.specs.Image.{byte-sum, checksum, rules-in-block, block-places, places-of-block}
 use Rattle.image.specs.Filling.{filled-body, filled}
 use Rattle.image.proofs.Tests.{and-both}
 use Rattle.image.proofs.PlaceRows.{places-local}
-use Rattle.image.proofs.Numbers.{number-there, checksum-small, zeros-zero}
+use Rattle.image.proofs.Zeros.{zeros-zero}
+
+checksum-small : (x : List ℕ) → checksum x < 65521
+unfolding checksum
+checksum-small x = mod-lt (byte-sum (take 510 x)) (omega arith)
 
 module _ (n k b : ℕ) (p : List ℕ) where
   pub filled-jobs : getD (filled n k b p) 0 0 ≡ n

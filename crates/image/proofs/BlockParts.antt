@@ -6,13 +6,14 @@ use Prim.Native.Nat.{ℕ, suc, _+_, _*_, _-_, _/_, _%_, _≤_, _<_}
 use native.Mathlib.Omega.{arith}
 use lib.ListN.{length, getD, take, drop, replicate, length-take, length-drop, take-append-drop}
 use lib.Seq.{take-add, take-all, take-take, drop-cons}
+use Rattle.area.specs.Numbers.{number-at, low-first}
+use Rattle.area.proofs.Numbers.{number-split}
 use Rattle.rules.specs.Places.{all-zero, places-good}
-use Rattle.image.specs.Image.{number-at, byte-sum, checksum, rules-in-block, block-places, places-of-block}
-use Rattle.image.specs.Writing.{low-first}
+use Rattle.image.specs.Image.{byte-sum, checksum, rules-in-block, block-places, places-of-block}
 use Rattle.image.specs.Filling.{filled-body, filled}
 use Rattle.image.proofs.Tests.{and-right}
 use Rattle.image.proofs.Blocks.{Head}
-use Rattle.image.proofs.Numbers.{number-split, zeros-are}
+use Rattle.image.proofs.Zeros.{zeros-are}
 
 parts : (a b c d e : ℕ) (x : List ℕ) →
     take (a + b + c + d + e) x ≡ take a x ++ take b (drop a x) ++ take c (drop (a + b) x) ++ take d (drop (a + b + c) x) ++ take e (drop (a + b + c + d) x)

@@ -9,7 +9,8 @@ use lib.Dec.{leb, eqb}
 use lib.ListN.{length, getD, take, drop, length-take, length-drop, take-append-drop}
 use lib.Seq.{drop-drop}
 use borrow.Author.Tests.{leb-true, eqb-true, eqb-false, le-leb, eq-eqb, ne-eqb}
-use Rattle.image.specs.Image.{number-at, block, blocks-in, rules-in-block, each-block, head-good, block-good, rules-fit, head-of, places-of-block}
+use Rattle.area.specs.Numbers.{number-at}
+use Rattle.image.specs.Image.{block, blocks-in, rules-in-block, each-block, head-good, block-good, rules-fit, head-of, places-of-block}
 use Rattle.image.proofs.Tests.{and-left, and-right, and-both}
 
 -- a check of each block, and of one

@@ -6,7 +6,7 @@ pub mod PlaceRows
 pub mod ListRefusal
 pub mod Held
 pub mod Written
-pub mod Numbers
+pub mod Zeros
 pub mod BlockParts
 pub mod ImageList
 pub mod ImageBack

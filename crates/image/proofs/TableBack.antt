@@ -7,9 +7,10 @@ use native.Mathlib.Decide.{ℕ-discrete}
 use native.Mathlib.Omega.{arith}
 use lib.ListN.{getD, take, drop, length-drop, drop-of-length-le, take-append-drop}
 use lib.Seq.{take-all, getD-take, drop-drop}
+use Rattle.area.specs.Numbers.{number-at}
 use Rattle.rules.specs.Places.{rule-count, table-of, table-refusal}
 use Rattle.rules.specs.Lists.{GoodList}
-use Rattle.image.specs.Image.{number-at, checksum, block, blocks-in, block-places, places-from, image-jobs, image-places, table-in, layout-refusal, image-refusal, places-of-block}
+use Rattle.image.specs.Image.{checksum, block, blocks-in, block-places, places-from, image-jobs, image-places, table-in, layout-refusal, image-refusal, places-of-block}
 use Rattle.image.specs.Writing.{blocks-for, rules-for, written, list-refusal, write-refusal}
 use Rattle.image.specs.Filling.{filled}
 use Rattle.image.proofs.Blocks.{Head, blocks-are}

@@ -13,7 +13,7 @@ use Rattle.rules.specs.Places.{all-zero, rule-in, place-good, places-good, rule
 use Rattle.rules.specs.Lists.{GoodList}
 use Rattle.image.specs.Image.{image-jobs, image-places, table-in, layout-refusal}
 use Rattle.image.proofs.Tests.{and-left, and-right}
-use Rattle.image.proofs.Numbers.{zeros-are}
+use Rattle.image.proofs.Zeros.{zeros-are}
 use Rattle.image.proofs.ImageList.{image-good-list}
 
 -- a good place is the place of its rule

@@ -4,8 +4,9 @@ use mathlib.Core.List.{List, _∷_, _++_}
 use Prim.Native.Nat.{ℕ, zero, suc, _*_, _-_, _/_, _≤_}
 use native.Mathlib.Omega.{arith}
 use lib.ListN.{length, take, drop, replicate, length-append, length-take, length-drop, length-replicate}
+use Rattle.area.specs.Numbers.{low-first}
 use Rattle.rules.specs.Places.{rule-count}
-use Rattle.image.specs.Writing.{low-first, blocks-for, rules-for, body, written-block, written-from, written}
+use Rattle.image.specs.Writing.{blocks-for, rules-for, body, written-block, written-from, written}
 use Rattle.image.specs.Filling.{filled-body, filled}
 
 -- the bytes of the rules in block k

@@ -3,8 +3,8 @@ use mathlib.Core.Path.{_≡_}
 use mathlib.Core.List.{List, _∷_, _++_}
 use Prim.Native.Nat.{ℕ, _-_, _/_, _≤_, _<_}
 use lib.ListN.{length, replicate}
+use Rattle.area.specs.Numbers.{low-first}
 use Rattle.image.specs.Image.{checksum}
-use Rattle.image.specs.Writing.{low-first}
 
 -- bytes 0 to 509 of block k of so many blocks
 unfoldable pub filled-body : (jobs k blocks : ℕ) → (rules : List ℕ) → List ℕ

@@ -4,12 +4,9 @@ use mathlib.Core.List.{List, [], _∷_, _++_}
 use Prim.Native.Nat.{ℕ, zero, suc, _+_, _*_, _-_, _/_, _%_}
 use lib.Dec.{leb, eqb}
 use lib.ListN.{length, getD, take, drop}
+use Rattle.area.specs.Numbers.{number-at}
 use Rattle.bpa.specs.Plans.{Table}
 use Rattle.rules.specs.Places.{all-zero, places-good, table-of, table-refusal, or-else}
-
--- a two-byte number, low byte first
-unfoldable pub number-at : (at : ℕ) → List ℕ → ℕ
-number-at i bs = getD bs i 0 + 256 * getD bs (suc i) 0
 
 unfoldable pub byte-sum : List ℕ → ℕ
 byte-sum [] = 0

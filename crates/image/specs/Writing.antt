@@ -4,11 +4,9 @@ use mathlib.Core.List.{List, [], _∷_, _++_}
 use Prim.Native.Nat.{ℕ, zero, suc, _+_, _*_, _-_, _/_, _%_, min}
 use lib.Dec.{leb, eqb}
 use lib.ListN.{length, take, drop, replicate}
+use Rattle.area.specs.Numbers.{low-first}
 use Rattle.rules.specs.Places.{places-good, rule-count, table-of, table-refusal, or-else}
 use Rattle.image.specs.Image.{checksum}
-
-unfoldable pub low-first : (number : ℕ) → List ℕ
-low-first v = (v % 256) ∷ (v / 256 % 256) ∷ []
 
 -- 63 rules in all blocks but the last
 unfoldable pub blocks-for : (rules : List ℕ) → ℕ

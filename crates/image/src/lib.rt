@@ -1,8 +1,8 @@
 // Images: their definitions and laws, and the functions over them that checks and writer share.
 ghost use mathlib.Core.Path.{_≡_};
-ghost use Prim.Native.Nat.{_+_, _*_, _≤_, _<_};
+ghost use Prim.Native.Nat.{_≤_, _<_};
 ghost use lib.ListN.{length};
-ghost use Rattle.image.specs.Image.{number-at, byte-sum, checksum};
+ghost use Rattle.image.specs.Image.{byte-sum, checksum};
 
 // The sum of some bytes.
 fn byte_sum(bytes: &[u8]) -> usize
@@ -16,16 +16,6 @@ fn byte_sum(bytes: &[u8]) -> usize
         i += 1;
     }
     sum
-}
-
-// A two-byte number, low byte first.
-pub fn number_at(at: usize, bytes: &[u8]) -> usize
-    requires { ⌜ at + 1 < length (now bytes) ⌝ }
-    ensures { λ r. ⌜ r ≡ number-at at (now (bytes .entry)) ⌝ }
-{
-    let low = area::wide(bytes[at]);
-    let high = area::wide(bytes[at + 1]);
-    low + 256 * high
 }
 
 // The sum of bytes 0 to 509, modulo 65,521.

@@ -36,11 +36,11 @@ pub fn head_good(jobs: usize, count: usize, k: usize, block: &[u8]) -> bool
     let next = k + 1;
     let last = next == count;
     if rules_fit(last, rules) {
-        let number = image::number_at(506, block);
+        let number = area::number_at(506, block);
         if number != k {
             return false;
         }
-        let blocks = image::number_at(508, block);
+        let blocks = area::number_at(508, block);
         return blocks == count;
     }
     false

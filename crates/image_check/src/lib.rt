@@ -7,7 +7,8 @@ ghost use mathlib.Core.Bool.{true};
 ghost use Prim.Native.Nat.{_*_, _≤_, _<_};
 ghost use lib.Dec.{eqb};
 ghost use lib.ListN.{length};
-ghost use Rattle.image.specs.Image.{number-at, checksum, head-good, each-block, layout-refusal};
+ghost use Rattle.area.specs.Numbers.{number-at};
+ghost use Rattle.image.specs.Image.{checksum, head-good, each-block, layout-refusal};
 ghost use Rattle.image.specs.Writing.{list-refusal};
 ghost use Rattle.image.specs.Checks.{block-check};
 
@@ -17,7 +18,7 @@ fn sum_good(block: &[u8]) -> bool
     ensures { λ r. ⌜ r ≡ eqb (number-at 510 (now (block .entry))) (checksum (now (block .entry))) ⌝ }
 {
     let sum = image::checksum(block);
-    let stored = image::number_at(510, block);
+    let stored = area::number_at(510, block);
     stored == sum
 }
 

@@ -7,9 +7,9 @@ use native.Mathlib.Omega.{arith}
 use lib.ListN.{length, take, replicate, length-replicate}
 use lib.Seq.{take-take, take-all}
 use Rattle.area.specs.Areas.{put}
+use Rattle.area.specs.Numbers.{low-first}
 use Rattle.area.proofs.Puts.{put-up-to, put-length}
 use Rattle.image.specs.Image.{byte-sum, checksum}
-use Rattle.image.specs.Writing.{low-first}
 use Rattle.image.specs.Filling.{Fills, filled-body, filled}
 
 -- a block of 512 bytes whose first e bytes are known

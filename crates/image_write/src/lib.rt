@@ -1,31 +1,10 @@
 // The writer of images: each block is filled in its own part of the output.
 ghost use mathlib.Core.Path.{_≡_};
-ghost use mathlib.Core.List.{[], _∷_, _++_};
+ghost use mathlib.Core.List.{_++_};
 ghost use Prim.Native.Nat.{_+_, _≤_, _<_, min};
 ghost use lib.ListN.{length, drop};
-ghost use Rattle.area.specs.Areas.{put};
-ghost use Rattle.image.specs.Writing.{low-first, written, list-refusal};
+ghost use Rattle.image.specs.Writing.{written, list-refusal};
 ghost use Rattle.image.specs.Filling.{Fills, filled};
-
-// Two bytes at a place.
-fn put_two(first: usize, second: usize, at: usize, block: &mut [u8])
-    requires { ⌜ (at + 1 < length (now block)) × ((first < 256) × (second < 256)) ⌝ }
-    ensures { λ _. ⌜ now (block .exit) ≡ put at (first ∷ second ∷ []) (now (block .entry)) ⌝ }
-{
-    let next = at + 1;
-    block[at] = first as u8;
-    block[next] = second as u8;
-}
-
-// A two-byte number at a place, low byte first.
-fn put_number(number: usize, at: usize, block: &mut [u8])
-    requires { ⌜ at + 1 < length (now block) ⌝ }
-    ensures { λ _. ⌜ now (block .exit) ≡ put at (low-first number) (now (block .entry)) ⌝ }
-{
-    let low = number % 256;
-    let high = number / 256 % 256;
-    put_two(low, high, at, block);
-}
 
 // FILLS BLOCK k, whatever it held: counts, rules, zeros, numbers, checksum.
 fn fill_block(jobs: usize, k: usize, blocks: usize, rules: &[u8], block: &mut [u8])
@@ -33,13 +12,13 @@ fn fill_block(jobs: usize, k: usize, blocks: usize, rules: &[u8], block: &mut [u
     ensures { λ _. ⌜ now (block .exit) ≡ filled jobs k blocks (now (rules .entry)) ⌝ }
 {
     let end = 2 + rules.len();
-    put_two(jobs, rules.len() / 8, 0, block);
+    area::put_two(jobs, rules.len() / 8, 0, block);
     area::put(block, 2, rules);
     area::put_zeros(end, 506, block);
-    put_number(k, 506, block);
-    put_number(blocks, 508, block);
+    area::put_number(k, 506, block);
+    area::put_number(blocks, 508, block);
     let sum = image::checksum(block);
-    put_number(sum, 510, block);
+    area::put_number(sum, 510, block);
 }
 
 fn least(a: usize, b: usize) -> usize

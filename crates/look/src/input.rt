@@ -1,7 +1,6 @@
 // What planlook reads: the image, and a plan.
 use libc::STDIN_FILENO;
-ghost use mathlib.Core.Path.{_≡_};
-ghost use Prim.Native.Nat.{_+_, _*_, _≤_, _<_};
+ghost use Prim.Native.Nat.{_≤_};
 ghost use lib.ListN.{length};
 ghost use Rattle.look.specs.Input.{jobs-got};
 
@@ -17,13 +16,6 @@ pub enum Got {
     Plan(usize),
 }
 
-// A two-byte number, the low byte first.
-fn two_bytes(low: u8, high: u8) -> usize
-    ensures { λ r. ⌜ (r ≡ low + 256 * high) × (r < 65536) ⌝ }
-{
-    low as usize + 256 * (high as usize)
-}
-
 // Reads an image to the front of an area, and gives its size; 0 where it is not 1 to 4 whole blocks.
 pub fn read_image(area: &mut [u8]) -> usize
     requires { ⌜ 2048 ≤ length (now area) ⌝ }
@@ -32,7 +24,7 @@ pub fn read_image(area: &mut [u8]) -> usize
     if io::read_full(STDIN_FILENO, &mut area[0..512]) < 512 {
         return 0;
     }
-    let size = 512 * two_bytes(area[508], area[509]);
+    let size = 512 * area::number(area[508], area[509]);
     if size < 512 {
         return 0;
     }
@@ -57,7 +49,7 @@ pub fn read_plan(area: &mut [u8]) -> Got
     if got == 1 {
         return Got::Cut;
     }
-    let size = two_bytes(area[0], area[1]);
+    let size = area::number(area[0], area[1]);
     if 4096 < size {
         return Got::Long;
     }

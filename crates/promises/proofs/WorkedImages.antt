@@ -8,13 +8,14 @@ use Prim.Native.Nat.{ℕ}
 use lib.Dec.{eqb}
 use lib.ListN.{getD}
 use borrow.Author.Tests.{eqb-true}
+use Rattle.area.specs.Numbers.{number-at, low-first}
 use Rattle.bpa.specs.Plans.{all-below}
 use Rattle.bpa.specs.Norms.{sum-of, all-known, lesser, best, one-round, rounds, norms}
 use Rattle.bpa.proofs.Basics.Plans.{and-left, and-right}
 use Rattle.rules.specs.Places.{all-zero, rule-in, place-good, places-good, rules-in, rule-count, table-of, any-zero, any-above, table-refusal, or-else}
 use Rattle.norm.specs.Plans.{jobs-refusal, sum-refusal, plans-refusal}
-use Rattle.image.specs.Image.{number-at, byte-sum, checksum, block, blocks-in, rules-in-block, block-places, each-block, length-good, sum-good, rules-fit, head-of, head-good, places-of-block, block-good, layout-refusal, places-from, image-jobs, image-places, table-in, image-refusal}
-use Rattle.image.specs.Writing.{low-first, blocks-for, rules-for, body, written-block, written-from, written, list-refusal, write-refusal}
+use Rattle.image.specs.Image.{byte-sum, checksum, block, blocks-in, rules-in-block, block-places, each-block, length-good, sum-good, rules-fit, head-of, head-good, places-of-block, block-good, layout-refusal, places-from, image-jobs, image-places, table-in, image-refusal}
+use Rattle.image.specs.Writing.{blocks-for, rules-for, body, written-block, written-from, written, list-refusal, write-refusal}
 use Rattle.entries.specs.Entries.{two-refusal}
 
 -- a list that the writer refuses so, and its image too; two plans that are refused so; a byte of a written image

@@ -5,10 +5,11 @@ use mathlib.Core.List.{List, [], _∷_, _++_}
 use Prim.Native.Nat.{ℕ, zero, suc, _*_, _-_, _/_, _%_, _≤_}
 use native.Mathlib.Omega.{arith}
 use lib.ListN.{take, drop, replicate, take-append-drop}
+use Rattle.area.specs.Numbers.{low-first}
 use Rattle.bpa.specs.Plans.{Table, all-below, over}
 use Rattle.bpa.proofs.Basics.Plans.{over-none, over-cons, over-append, over-left, over-right}
 use Rattle.image.specs.Image.{checksum}
-use Rattle.image.specs.Writing.{low-first, blocks-for, rules-for, body, written-block, written-from, written}
+use Rattle.image.specs.Writing.{blocks-for, rules-for, body, written-block, written-from, written}
 
 -- bytes are the jobs of a table of 256
 abbrev bytes : Table

@@ -5,7 +5,8 @@ use Prim.Native.Nat.{ℕ, _*_, _≤_, _<_}
 use lib.Dec.{eqb}
 use lib.ListN.{length, getD}
 use borrow.Author.Tests.{le-leb, lt-leb}
-use Rattle.image.specs.Image.{number-at, checksum, block, sum-good, head-good, block-good, head-of, places-of-block}
+use Rattle.area.specs.Numbers.{number-at}
+use Rattle.image.specs.Image.{checksum, block, sum-good, head-good, block-good, head-of, places-of-block}
 use Rattle.image.specs.Checks.{block-check}
 use Rattle.image.proofs.Blocks.{block-part, block-length, head-is, places-are, rules-few, blocks-are}
 use borrow.Author.Needs.{needs}

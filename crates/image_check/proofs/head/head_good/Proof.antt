@@ -7,7 +7,8 @@ use native.Mathlib.Numerals.{add-one}
 use lib.Dec.{eqb}
 use lib.ListN.{getD}
 use borrow.Author.Tests.{le-leb, lt-leb, eq-eqb, ne-eqb}
-use Rattle.image.specs.Image.{rules-in-block, number-at, rules-fit, head-of}
+use Rattle.area.specs.Numbers.{number-at}
+use Rattle.image.specs.Image.{rules-in-block, rules-fit, head-of}
 use borrow.Author.Needs.{needs}
 use native.Mathlib.Omega.{arith}
 use Rattle.image_check.proofs.head.head_good.Statement.{statement}

@@ -1,8 +1,8 @@
--- `image_write::put_number` meets its contract. Assumes nothing.
+-- `area::put_number` meets its contract. Assumes nothing.
 use borrow.Author.Needs.{needs}
-use Rattle.image.specs.Writing.{low-first}
-use Rattle.image_write.proofs.put_number.Statement.{statement}
-use Rattle.image_write.proofs.put_number.Tie as tie
+use Rattle.area.specs.Numbers.{low-first}
+use Rattle.area.proofs.put_number.Statement.{statement}
+use Rattle.area.proofs.put_number.Tie as tie
 
 put-two-requires : tie.Need-put-two-requires
 put-two-requires c κs = search needs

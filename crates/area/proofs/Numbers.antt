@@ -1,18 +1,12 @@
--- Two-byte numbers and rows of zeros as parts of a list, read and written. Assumes nothing.
-use mathlib.Core.Path.{_≡_, refl, sym, ap, _∙_}
-use mathlib.Core.Bool.{true}
+-- Two-byte numbers as parts of a list, read and written. Assumes nothing.
+use mathlib.Core.Path.{_≡_, sym, ap, _∙_}
 use mathlib.Core.List.{List, [], _∷_, _++_}
 use Prim.Native.Nat.{ℕ, zero, suc, _+_, _*_, _/_, _%_, _≤_, _<_}
-use native.Mathlib.Nat.{mod-lt, mod-eq-of-lt, add-mul-mod-self-left}
+use native.Mathlib.Nat.{mod-eq-of-lt, add-mul-mod-self-left}
 use native.Mathlib.Omega.{arith}
-use lib.Dec.{eqb}
-use lib.ListN.{length, getD, take, drop, replicate}
+use lib.ListN.{length, getD, take, drop}
 use lib.Seq.{drop-cons}
-use borrow.Author.Tests.{eqb-true, eq-eqb}
-use Rattle.rules.specs.Places.{all-zero}
-use Rattle.image.specs.Image.{number-at, checksum, byte-sum}
-use Rattle.image.specs.Writing.{low-first}
-use Rattle.image.proofs.Tests.{and-left, and-right, and-both}
+use Rattle.area.specs.Numbers.{number-at, low-first}
 
 -- two bytes in a row are the number that is read from them
 pub number-split : (l : List ℕ) (i : ℕ) → i + 2 ≤ length l → getD l i 0 < 256 → getD l (suc i) 0 < 256 → take 2 (drop i l) ≡ low-first (number-at i l)
@@ -37,22 +31,3 @@ number-there [] v q zero e h = number-head v q h
 number-there [] v q (suc i) e h = absurd (omega arith)
 number-there (x ∷ p) v q zero e h = absurd (omega arith)
 number-there (x ∷ p) v q (suc i) e h = number-there p v q i (omega arith) h
-
-pub checksum-small : (x : List ℕ) → checksum x < 65521
-unfolding checksum
-checksum-small x = mod-lt (byte-sum (take 510 x)) (omega arith)
-
--- zeros
-pub zeros-are : (n : ℕ) (l : List ℕ) → length l ≡ n → all-zero l ≡ true → l ≡ replicate n 0
-unfolding all-zero
-zeros-are zero [] e h = refl
-zeros-are zero (x ∷ l) e h = absurd (omega arith)
-zeros-are (suc n) [] e h = absurd (omega arith)
-zeros-are (suc n) (x ∷ l) e h =
-    ap (λ y. y ∷ l) (eqb-true x 0 (and-left (eqb x 0) (all-zero l) h))
-    ∙ ap (λ r. 0 ∷ r) (zeros-are n l (omega arith) (and-right (eqb x 0) (all-zero l) h))
-
-pub zeros-zero : (n : ℕ) → all-zero (replicate n 0) ≡ true
-unfolding all-zero
-zeros-zero zero = refl
-zeros-zero (suc n) = and-both (eqb 0 0) (all-zero (replicate n 0)) (eq-eqb 0 0 refl) (zeros-zero n)
