@@ -5,8 +5,8 @@ use mathlib.Core.List.{List, [], _∷_}
 use Prim.Native.Nat.{ℕ, zero, suc, _+_, _*_, _/_, _%_, _<_}
 use native.Mathlib.Omega.{arith}
 use lib.Dec.{ltb}
-use lib.ListN.{length, getD, set, replicate, getD-replicate, length-replicate, List·getD-eq-default}
-use borrow.Author.Tests.{ltb-true, ltb-false, lt-ltb}
+use lib.ListN.{length, getD, set}
+use borrow.Author.Tests.{ltb-true, lt-ltb}
 use Rattle.bpa.specs.Method.{precedes}
 use Rattle.bpa.proofs.Basics.Cases.{by-test}
 use Rattle.judge.specs.Judging.{byte-base}
@@ -57,8 +57,3 @@ ones-fewer [] i h e = absurd (omega arith)
 ones-fewer (x ∷ b) zero h e = rw (lt-ltb 0 x e)
 ones-fewer (x ∷ b) (suc i) h e =
     by-test (ltb 0 x) (λ q. rw q (ap suc (ones-fewer b i (omega arith) e))) (λ q. rw q (ones-fewer b i (omega arith) e))
-
-pub zeros : (m i : ℕ) → _≡_ {A = ℕ} (getD (replicate m 0) i 0) 0
-zeros m i =
-    by-test (ltb i m) (λ q. getD-replicate m i 0 0 (ltb-true i m q))
-    (λ q. List·getD-eq-default {A = ℕ} (replicate m 0) 0 {n = i} (omega (arith, ltb-false i m q, length-replicate {A = ℕ} m 0)))

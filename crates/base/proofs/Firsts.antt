@@ -9,13 +9,14 @@ use lib.Seq.{getD-set-same, getD-set-other}
 use borrow.Author.Count.{below-more}
 use borrow.Author.Tests.{eqb-true, eqb-false}
 use Rattle.bpa.specs.Norms.{Good}
+use Rattle.bpa.proofs.Basics.Zeros.{zeros-at}
 use Rattle.bpa.proofs.Basics.Cases.{by-test}
 use Rattle.bpa.proofs.Base.SameBase.{Same-steps, step-level, same-steps-full}
 use Rattle.rules.specs.Places.{table-of}
 use Rattle.candidate.proofs.Tables.{job-in-table}
 use Rattle.judge.specs.Judging.{byte-base}
 use Rattle.base.specs.Held.{PairPlace, Held}
-use Rattle.base.proofs.Bytes.{place-greater, place-lesser, pair-place, byte-held, zeros}
+use Rattle.base.proofs.Bytes.{place-greater, place-lesser, pair-place, byte-held}
 
 -- the bytes below k are written
 pub record First (n : ℕ) (rs ns b : List ℕ) (k : ℕ) : Type 0 where
@@ -28,8 +29,8 @@ module _ (n : ℕ) (rs ns : List ℕ) where
   pub first-none : First n rs ns (replicate 576 0) 0
   first-none = record {
     size = refl;
-    sound = λ i e. absurd (omega (arith, zeros 576 i));
-    rest = λ i h. zeros 576 i;
+    sound = λ i e. absurd (omega (arith, zeros-at 576 i));
+    rest = λ i h. zeros-at 576 i;
     whole = λ i h. absurd (omega arith);
   }
 

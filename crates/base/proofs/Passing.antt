@@ -10,13 +10,14 @@ use Rattle.area.specs.Areas.{put}
 use Rattle.area.proofs.PutLaws.{drop-put}
 use Rattle.bpa.specs.Norms.{Good}
 use Rattle.bpa.specs.Method.{fits}
+use Rattle.bpa.proofs.Basics.Zeros.{zeros-at}
 use Rattle.rules.specs.Places.{table-of}
 use Rattle.rules.specs.Lists.{GoodList}
 use Rattle.judge.specs.Judging.{byte-base}
 use Rattle.base.specs.Held.{Lists, ones, Held, Passed}
 use Rattle.matching.specs.Remembered.{memory-in, Remembered}
 use Rattle.matching.proofs.Shrinking.{remember-smaller}
-use Rattle.base.proofs.Bytes.{place-greater, place-lesser, ones-fewer, held-byte, byte-held, zeros}
+use Rattle.base.proofs.Bytes.{place-greater, place-lesser, ones-fewer, held-byte, byte-held}
 use Rattle.base.proofs.Dropping.{drop-held, cleared}
 
 -- a pair fits if it is held
@@ -103,8 +104,8 @@ module _ (n : ℕ) (rs ns ord before area : List ℕ) where
 remember-none : (n : ℕ) (rs ns base : List ℕ) → Remembered n rs ns base (replicate 6048 0)
 remember-none n rs ns base = record {
   size = length-replicate {A = ℕ} 6048 0;
-  stands = λ o r ho hr l. absurd (omega (arith, zeros 6048 (252 * o + r)));
-  failed = λ o r k ho hr l. absurd (omega (arith, zeros 6048 (252 * o + r)));
+  stands = λ o r ho hr l. absurd (omega (arith, zeros-at 6048 (252 * o + r)));
+  failed = λ o r k ho hr l. absurd (omega (arith, zeros-at 6048 (252 * o + r)));
 }
 
 zeros-behind : (m : ℕ) (area : List ℕ) → length area ≡ 12288 + m → memory-in (put 12288 (replicate m 0) area) ≡ replicate m 0

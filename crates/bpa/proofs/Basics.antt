@@ -1,5 +1,6 @@
 -- Tests, lists of jobs, plans, moves and the order of jobs.
 pub mod Cases
+pub mod Zeros
 pub mod EachJob
 pub mod Counting
 pub mod JobsBelow

@@ -16,7 +16,7 @@ use Rattle.bpa.specs.Method.{judge, judged, answered, all-answered, matc
 use Rattle.bpa.specs.Method.{keep-fitting, round, refine, final-base, first-of, least-pair, prime-row, prime-rows}
 use Rattle.bpa.specs.Method.{same, prime-form}
 use Rattle.bpa.specs.Bisimilar.{Bisimilar, Prime, All-lowest, one-more, Form}
-use Rattle.bpa.proofs.Basics.Plans.{and-left, and-right}
+use Rattle.bpa.proofs.Basics.Cases.{and-left, and-right}
 use Rattle.bpa.proofs.Norm.NormExact.{job-norm, job-without}
 use Rattle.bpa.proofs.Norm.GoodTable.{tested-closed, good-table}
 use Rattle.bpa.proofs.Answers.{same-exact, form-exists}

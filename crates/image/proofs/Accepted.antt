@@ -9,7 +9,8 @@ use lib.ListN.{length, getD}
 use borrow.Author.Tests.{leb-true, eqb-true, le-leb, eq-eqb}
 use Rattle.area.specs.Numbers.{number-at}
 use Rattle.image.specs.Image.{checksum, block, blocks-in, each-block, length-good, sum-good, head-good, block-good, layout-refusal, places-of-block}
-use Rattle.image.proofs.Tests.{and-left, and-right, and-both, passed, pass}
+use Rattle.image.proofs.Refusals.{passed, pass}
+use Rattle.bpa.proofs.Basics.Cases.{and-left, and-right, and-both}
 use Rattle.image.proofs.Blocks.{each-one, each-all, Head, head-is, head-facts, head-made, places-are}
 
 pub record LaidOut (bs : List ℕ) : Type 0 where

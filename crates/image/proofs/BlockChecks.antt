@@ -12,7 +12,7 @@ use Rattle.area.proofs.Numbers.{number-there}
 use Rattle.rules.specs.Places.{all-zero, places-good}
 use Rattle.image.specs.Image.{byte-sum, checksum, rules-in-block, block-places, places-of-block}
 use Rattle.image.specs.Filling.{filled-body, filled}
-use Rattle.image.proofs.Tests.{and-both}
+use Rattle.bpa.proofs.Basics.Cases.{and-both}
 use Rattle.image.proofs.PlaceRows.{places-local}
 use Rattle.image.proofs.Zeros.{zeros-zero}
 

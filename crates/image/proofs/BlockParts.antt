@@ -11,7 +11,7 @@ use Rattle.area.proofs.Numbers.{number-split}
 use Rattle.rules.specs.Places.{all-zero, places-good}
 use Rattle.image.specs.Image.{byte-sum, checksum, rules-in-block, block-places, places-of-block}
 use Rattle.image.specs.Filling.{filled-body, filled}
-use Rattle.image.proofs.Tests.{and-right}
+use Rattle.bpa.proofs.Basics.Cases.{and-right}
 use Rattle.image.proofs.Blocks.{Head}
 use Rattle.image.proofs.Zeros.{zeros-are}
 

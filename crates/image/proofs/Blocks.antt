@@ -11,7 +11,7 @@ use lib.Seq.{drop-drop}
 use borrow.Author.Tests.{leb-true, eqb-true, eqb-false, le-leb, eq-eqb, ne-eqb}
 use Rattle.area.specs.Numbers.{number-at}
 use Rattle.image.specs.Image.{block, blocks-in, rules-in-block, each-block, head-good, block-good, rules-fit, head-of, places-of-block}
-use Rattle.image.proofs.Tests.{and-left, and-right, and-both}
+use Rattle.bpa.proofs.Basics.Cases.{and-left, and-right, and-both}
 
 -- a check of each block, and of one
 pub each-one : (f : ℕ → Bool) (n k : ℕ) → each-block f n k ≡ true → (j : ℕ) → k ≤ j → j < k + n → f j ≡ true

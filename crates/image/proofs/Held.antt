@@ -11,7 +11,7 @@ use Rattle.rules.specs.Lists.{GoodList}
 use Rattle.rules.specs.Places.{all-zero, places-good, rule-count}
 use Rattle.image.specs.Image.{block, blocks-in, rules-in-block, block-places, places-from, image-jobs, image-places, layout-refusal, places-of-block}
 use Rattle.image.specs.Writing.{list-refusal}
-use Rattle.image.proofs.Tests.{and-left, and-both}
+use Rattle.bpa.proofs.Basics.Cases.{and-left, and-both}
 use Rattle.image.proofs.Blocks.{block-length}
 use Rattle.image.proofs.Accepted.{LaidOut, laid-out}
 use Rattle.image.proofs.ListRefusal.{list-passes}

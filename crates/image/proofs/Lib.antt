@@ -1,5 +1,5 @@
 -- Laws of images: what each check gives, what an accepted image holds, and the round trips.
-pub mod Tests
+pub mod Refusals
 pub mod Blocks
 pub mod Accepted
 pub mod PlaceRows

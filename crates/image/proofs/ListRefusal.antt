@@ -10,7 +10,8 @@ use borrow.Author.Tests.{leb-true, eqb-true, le-leb, eq-eqb}
 use Rattle.rules.specs.Places.{places-good, rule-count, or-else}
 use Rattle.rules.specs.Lists.{GoodList}
 use Rattle.image.specs.Writing.{list-refusal}
-use Rattle.image.proofs.Tests.{and-left, and-right, and-both, passed, pass}
+use Rattle.image.proofs.Refusals.{passed, pass}
+use Rattle.bpa.proofs.Basics.Cases.{and-left, and-right, and-both}
 
 -- neither the first check refuses nor the second
 pub neither : (a b : ℕ) → or-else a b ≡ 0 → (a ≡ 0) × (b ≡ 0)

@@ -12,7 +12,7 @@ use Rattle.bpa.specs.Plans.{all-below}
 use Rattle.rules.specs.Places.{all-zero, rule-in, place-good, places-good, rules-in, rule-count, table-of, place-of, places-of, table-bytes}
 use Rattle.rules.specs.Lists.{GoodList}
 use Rattle.image.specs.Image.{image-jobs, image-places, table-in, layout-refusal}
-use Rattle.image.proofs.Tests.{and-left, and-right}
+use Rattle.bpa.proofs.Basics.Cases.{and-left, and-right}
 use Rattle.image.proofs.Zeros.{zeros-are}
 use Rattle.image.proofs.ImageList.{image-good-list}
 

@@ -12,7 +12,7 @@ use Rattle.rules.specs.Lists.{GoodList}
 use Rattle.image.specs.Image.{block}
 use Rattle.image.specs.Writing.{blocks-for, rules-for, written-block, written-from, written}
 use Rattle.image.specs.Filling.{filled}
-use Rattle.image.proofs.Tests.{and-left, and-right}
+use Rattle.bpa.proofs.Basics.Cases.{and-left, and-right}
 use Rattle.image.proofs.PlaceRows.{places-split}
 use Rattle.image.proofs.Written.{part, block-size, filled-is}
 

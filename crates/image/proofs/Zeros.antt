@@ -8,7 +8,7 @@ use lib.Dec.{eqb}
 use lib.ListN.{length, replicate}
 use borrow.Author.Tests.{eqb-true, eq-eqb}
 use Rattle.rules.specs.Places.{all-zero}
-use Rattle.image.proofs.Tests.{and-left, and-right, and-both}
+use Rattle.bpa.proofs.Basics.Cases.{and-left, and-right, and-both}
 
 pub zeros-are : (n : ℕ) (l : List ℕ) → length l ≡ n → all-zero l ≡ true → l ≡ replicate n 0
 unfolding all-zero

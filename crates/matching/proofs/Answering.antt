@@ -10,8 +10,8 @@ use borrow.Author.Tests.{eq-eqb, ne-eqb}
 use Rattle.bpa.specs.Plans.{Table, Move, all-below, over}
 use Rattle.bpa.specs.Norms.{sum-of, Good}
 use Rattle.bpa.specs.Method.{Base, judged}
-use Rattle.bpa.proofs.Basics.Plans.{and-right, over-append, over-none, sum-append}
-use Rattle.bpa.proofs.Basics.Cases.{is-false}
+use Rattle.bpa.proofs.Basics.Plans.{over-append, over-none, sum-append}
+use Rattle.bpa.proofs.Basics.Cases.{and-right, is-false}
 use Rattle.bpa.proofs.Judge.JudgeSound.{judged-norms}
 use Rattle.rules.specs.Places.{rule-at, rule-count, table-of}
 use Rattle.rules.specs.Lists.{GoodList}

@@ -10,8 +10,8 @@ use borrow.Author.Tests.{ltb-true, ltb-false}
 use Rattle.bpa.specs.Plans.{Table, Move, over}
 use Rattle.bpa.specs.Norms.{Good}
 use Rattle.bpa.specs.Method.{Base, precedes, candidate, judged}
-use Rattle.bpa.proofs.Basics.Cases.{by-test, is-false, never-both}
-use Rattle.bpa.proofs.Basics.Plans.{and-left, and-right, and-both, over-append, over-none}
+use Rattle.bpa.proofs.Basics.Cases.{by-test, and-left, and-right, and-both, is-false, never-both}
+use Rattle.bpa.proofs.Basics.Plans.{over-append, over-none}
 use Rattle.bpa.proofs.Basics.Order.{Ordered-pairs, less-precedes, precedes-le}
 use Rattle.bpa.proofs.Judge.Candidates.{candidate-over}
 use Rattle.bpa.proofs.Judge.JudgeMonotone.{judged-monotone}

@@ -2,7 +2,7 @@
 use mathlib.Core.Path.{_≡_, refl, sym, ap, _∙_, subst}
 use mathlib.Core.Bool.{Bool, cond}
 use mathlib.Core.List.{List, map}
-use Prim.Native.Nat.{ℕ, zero, suc, _+_, _≤_, _<_, min}
+use Prim.Native.Nat.{ℕ, suc, _+_, _≤_, _<_, min}
 use native.Mathlib.Nat.{min-zero}
 use native.Mathlib.Numerals.{add-one}
 use native.Mathlib.Decide.{ℕ-discrete, decLt}
@@ -12,16 +12,12 @@ use lib.Seq.{getD-set-same, getD-set-other}
 use borrow.Author.Tests.{eq-eqb, ne-eqb}
 use Rattle.bpa.specs.Plans.{Rule}
 use Rattle.bpa.specs.Norms.{lesser, best, one-round, capped-round}
+use Rattle.bpa.proofs.Basics.Zeros.{zeros-at}
 use Rattle.bpa.proofs.Norm.NormRounds.{next, next-length, next-at}
 use Rattle.rules.specs.Places.{rule-at, rule-count, table-of}
 use Rattle.rules.proofs.ListLaws.{rules-from, rules-from-start, rules-from-cons, rules-from-end}
 use Rattle.norm.specs.NormArrays.{Agree, norm-by}
 use Rattle.norm.proofs.Lesser.{lesser-left, lesser-right, lesser-assoc, lesser-cap, best-cons}
-
-pub getD-zeros : (n j : ℕ) → _≡_ {A = ℕ} (getD (replicate n 0) j 0) 0
-getD-zeros zero j = refl
-getD-zeros (suc n) zero = refl
-getD-zeros (suc n) (suc j) = getD-zeros n j
 
 module _ (m : ℕ) (one : 1 ≤ m) (n : ℕ) (old rs : List ℕ) where
   -- after the rules before i: what is found and what the others will give make the round
@@ -33,9 +29,9 @@ module _ (m : ℕ) (one : 1 ≤ m) (n : ℕ) (old rs : List ℕ) where
   pub passed-none : Passed 0 (replicate 24 0)
   passed-none = record {
     size = refl;
-    least = λ j. ap (λ (x : ℕ). lesser x (min m (best j old (rules-from rs 0)))) (getD-zeros 24 j) ∙ lesser-left _
+    least = λ j. ap (λ (x : ℕ). lesser x (min m (best j old (rules-from rs 0)))) (zeros-at 24 j) ∙ lesser-left _
         ∙ ap (λ (l : List Rule). min m (best j old l)) (rules-from-start n rs);
-    others = λ j h. getD-zeros 24 j;
+    others = λ j h. zeros-at 24 j;
   }
 
   module _ (i : ℕ) (new : List ℕ) (v : ℕ) (h : i < rule-count rs) (inside : rule-at rs i .job < n) (few : n ≤ 24)

@@ -8,11 +8,11 @@ use lib.ListN.{length, getD, replicate, length-map, length-replicate, List·getD
 use lib.Seq.{ext-getD}
 use Rattle.bpa.specs.Plans.{Table}
 use Rattle.bpa.specs.Norms.{norms, capped-round, capped-rounds}
+use Rattle.bpa.proofs.Basics.Zeros.{zeros-at}
 use Rattle.bpa.proofs.Norm.NormRounds.{next, next-length}
 use Rattle.bpa.proofs.Norm.NormCap.{capped-norms, capped-one-more, capped-settled}
 use Rattle.norm.specs.NormArrays.{Agree, IsRound, NormArray}
 use Rattle.norm.proofs.Agreement.{capped-agree}
-use Rattle.norm.proofs.Pass.{getD-zeros}
 
 -- the norms after so many rounds
 unfoldable pub after-rounds : Table → (k : ℕ) → List ℕ
@@ -41,7 +41,7 @@ module _ (t : Table) where
 
   pub none-known : Holds t 0 (replicate 24 0)
   unfolding after-rounds capped-rounds
-  none-known = record { size = refl; agree = λ j. getD-zeros 24 j ∙ sym (getD-zeros (t .jobs) j) }
+  none-known = record { size = refl; agree = λ j. zeros-at 24 j ∙ sym (zeros-at (t .jobs) j) }
 
   module _ (k : ℕ) (a b : List ℕ) (h : Holds t k a) (r : IsRound t a b) where
     next-agree : Agree b (capped-round 513 t (after-rounds t k))

@@ -1,5 +1,4 @@
 -- Laws of searches among the rules of a list, of chains and of norm-lowering rules.
-pub mod Below
 pub mod Seek
 pub mod Fill
 pub mod Lowering

@@ -11,8 +11,7 @@ use borrow.Author.Tests.{eqb-true, eq-eqb}
 use Rattle.bpa.specs.Plans.{Rule}
 use Rattle.bpa.specs.Norms.{sum-of}
 use Rattle.bpa.specs.Method.{lowering}
-use Rattle.bpa.proofs.Basics.Cases.{is-false}
-use Rattle.bpa.proofs.Basics.Plans.{and-left, and-right, and-both}
+use Rattle.bpa.proofs.Basics.Cases.{and-left, and-right, and-both, is-false}
 use Rattle.rules.specs.Places.{rule-at, rule-count, table-of}
 use Rattle.prepare.specs.Prepared.{all-rules, seek, lowers, Normed, Lowered}
 use Rattle.prepare.proofs.Seek.{all-length, all-at, seek-found, lowering-at}

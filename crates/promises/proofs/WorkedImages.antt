@@ -11,7 +11,7 @@ use borrow.Author.Tests.{eqb-true}
 use Rattle.area.specs.Numbers.{number-at, low-first}
 use Rattle.bpa.specs.Plans.{all-below}
 use Rattle.bpa.specs.Norms.{sum-of, all-known, lesser, best, one-round, rounds, norms}
-use Rattle.bpa.proofs.Basics.Plans.{and-left, and-right}
+use Rattle.bpa.proofs.Basics.Cases.{and-left, and-right}
 use Rattle.rules.specs.Places.{all-zero, rule-in, place-good, places-good, rules-in, rule-count, table-of, any-zero, any-above, table-refusal, or-else}
 use Rattle.norm.specs.Plans.{jobs-refusal, sum-refusal, plans-refusal}
 use Rattle.image.specs.Image.{byte-sum, checksum, block, blocks-in, rules-in-block, block-places, each-block, length-good, sum-good, rules-fit, head-of, head-good, places-of-block, block-good, layout-refusal, places-from, image-jobs, image-places, table-in, image-refusal}

@@ -12,10 +12,10 @@ use Rattle.bpa.specs.Plans.{Rule, Table, over, Step}
 use Rattle.bpa.specs.Norms.{sum-of, Good}
 use Rattle.bpa.specs.Bisimilar.{Approx}
 use Rattle.bpa.specs.Method.{precedes, candidate, Base, judged, fits}
-use Rattle.bpa.proofs.Basics.Plans.{and-left, and-right, and-both, over-one, over-cons, sum-append, step-over}
+use Rattle.bpa.proofs.Basics.Plans.{over-one, over-cons, sum-append, step-over}
 use Rattle.bpa.proofs.Rounds.Approximants.{approx-sym, approx-mono}
 use Rattle.bpa.proofs.Rounds.Cancellation.{any-reduct}
-use Rattle.bpa.proofs.Basics.Cases.{by-test, never-both}
+use Rattle.bpa.proofs.Basics.Cases.{by-test, and-left, and-right, and-both, never-both}
 use Rattle.bpa.proofs.Basics.Order.{precedes-le}
 use Rattle.bpa.proofs.Judge.Candidates.{candidate-reduces, candidate-over}
 use Rattle.bpa.proofs.Base.Matching.{simulates-matched}

@@ -9,8 +9,7 @@ use borrow.Author.Tests.{eqb-true, eq-eqb}
 use Rattle.bpa.specs.Plans.{Table, Move, moves, Step}
 use Rattle.bpa.specs.Bisimilar.{Simulates}
 use Rattle.bpa.specs.Method.{answered, all-answered, matched}
-use Rattle.bpa.proofs.Basics.Plans.{and-left, and-right, and-both}
-use Rattle.bpa.proofs.Basics.Cases.{or-cases, or-left, or-right}
+use Rattle.bpa.proofs.Basics.Cases.{and-left, and-right, and-both, or-cases, or-left, or-right}
 use Rattle.bpa.proofs.Basics.Moves.{moves-are-steps, steps-are-moves}
 
 module _ (f : List ℕ → List ℕ → Bool) where

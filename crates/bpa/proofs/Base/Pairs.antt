@@ -11,8 +11,7 @@ use lib.ListN.{length}
 use borrow.Author.Tests.{eqb-true, eq-eqb}
 use Rattle.bpa.specs.Plans.{Table}
 use Rattle.bpa.specs.Method.{precedes, Pair, holds, pairs-of, pairs-below, first-base, keep-fitting}
-use Rattle.bpa.proofs.Basics.Plans.{and-left, and-right, and-both}
-use Rattle.bpa.proofs.Basics.Cases.{by-test, or-cases, or-left, or-right}
+use Rattle.bpa.proofs.Basics.Cases.{by-test, and-left, and-right, and-both, or-cases, or-left, or-right}
 
 abbrev is-pair : Pair → (y x : ℕ) → Bool
 is-pair p y x = eqb (p .greater) y && eqb (p .lesser) x

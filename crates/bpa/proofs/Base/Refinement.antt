@@ -10,8 +10,7 @@ use borrow.Author.Tests.{eqb-true, eqb-false}
 use Rattle.bpa.specs.Plans.{Table}
 use Rattle.bpa.specs.Norms.{Good}
 use Rattle.bpa.specs.Method.{precedes, Base, fits, Pair, holds, first-base, round, refine, final-base}
-use Rattle.bpa.proofs.Basics.Plans.{and-left, and-right, and-both}
-use Rattle.bpa.proofs.Basics.Cases.{by-test}
+use Rattle.bpa.proofs.Basics.Cases.{by-test, and-left, and-right, and-both}
 use Rattle.bpa.proofs.Basics.Order.{Ordered-pairs}
 use Rattle.bpa.proofs.Judge.JudgeComplete.{Full}
 use Rattle.bpa.proofs.Base.FullBase.{full-higher, next-level, level-rises, full-fits}

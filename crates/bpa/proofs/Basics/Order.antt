@@ -10,8 +10,7 @@ use lib.ListN.{getD}
 use borrow.Author.Tests.{ltb-true, ltb-false, lt-ltb, eqb-true, eq-eqb}
 use Rattle.bpa.specs.Plans.{Table}
 use Rattle.bpa.specs.Method.{precedes}
-use Rattle.bpa.proofs.Basics.Plans.{and-left, and-right, and-both}
-use Rattle.bpa.proofs.Basics.Cases.{by-test, or-cases, or-right, is-false, never-both}
+use Rattle.bpa.proofs.Basics.Cases.{by-test, and-left, and-right, and-both, or-cases, or-right, is-false, never-both}
 
 module _ (ns : List ℕ) where
   -- what the test says

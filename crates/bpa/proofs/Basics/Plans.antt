@@ -1,25 +1,17 @@
 -- Laws of plans over a table: their jobs, their steps and their norms. Assumes nothing.
 use mathlib.Core.Path.{_≡_, refl, subst, sym, _∙_}
-use mathlib.Core.Bool.{Bool, true, false, _&&_}
+use mathlib.Core.Bool.{true}
 use mathlib.Core.List.{List, [], _∷_, _++_, append-assoc}
 use Prim.Native.Nat.{ℕ, suc, _+_, _≤_, _<_}
+use native.Mathlib.Numerals.{add-one}
 use native.Mathlib.Omega.{arith}
 use lib.Dec.{ltb}
-use lib.ListN.{length, getD}
+use lib.ListN.{length, getD, drop, drop-of-length-le}
+use lib.Seq.{drop-cons}
 use borrow.Author.Tests.{ltb-true, lt-ltb}
-use Rattle.bpa.specs.Plans.{Table, all-below, over, Step}
+use Rattle.bpa.specs.Plans.{Table, all-below, over, HasRule, Step}
 use Rattle.bpa.specs.Norms.{sum-of, Good}
-
-pub and-left : (a b : Bool) → (a && b) ≡ true → a ≡ true
-and-left true b h = refl
-and-left false b h = h
-
-pub and-right : (a b : Bool) → (a && b) ≡ true → b ≡ true
-and-right true b h = h
-and-right false b h = cc
-
-pub and-both : (a b : Bool) → a ≡ true → b ≡ true → (a && b) ≡ true
-and-both a b h k = rw (h, k)
+use Rattle.bpa.proofs.Basics.Cases.{and-left, and-right, and-both}
 
 module _ (t : Table) where
   pub over-head : (j : ℕ) (js : List ℕ) → over t (j ∷ js) ≡ true → j < t .jobs
@@ -62,6 +54,15 @@ pub sum-one : (ns : List ℕ) (j : ℕ) → sum-of ns (j ∷ []) ≡ getD ns j 0
 unfolding sum-of
 sum-one ns j = omega arith
 
+-- from place i on
+pub sum-at : (ns p : List ℕ) (i : ℕ) → i < length p → sum-of ns (drop i p) ≡ getD ns (getD p i 0) 0 + sum-of ns (drop (i + 1) p)
+unfolding sum-of
+sum-at ns p i h = rw (drop-cons p i 0 h, add-one)
+
+pub sum-end : (ns p : List ℕ) (i : ℕ) → length p ≤ i → sum-of ns (drop i p) ≡ 0
+unfolding sum-of
+sum-end ns p i h = rw (drop-of-length-le p h)
+
 -- a step of the front of a plan is a step of the plan, and a plan with a front has no others
 module _ (t : Table) where
   pub step-append : (p q r : List ℕ) (a : ℕ) → Step t p a q → Step t (p ++ r) a (q ++ r)
@@ -72,12 +73,16 @@ module _ (t : Table) where
       (q : List ℕ) × Step t (j ∷ js) a q × (s ≡ q ++ r)
   step-front j js r s a (w, h, e) = (w ++ js, (w, h, refl), e ∙ sym (append-assoc w js r))
 
+-- moves keep a plan over its table
+pub closed-step : (t : Table) → ((j a : ℕ) (w : List ℕ) → HasRule t j a w → over t w ≡ true) →
+    (p q : List ℕ) (a : ℕ) → over t p ≡ true → Step t p a q → over t q ≡ true
+closed-step t closed [] q a o s = absurd s
+closed-step t closed (j ∷ js) q a o (w, r, e) =
+    subst (λ l. over t l ≡ true) (sym e) (over-append t w js (closed j a w r) (over-tail t j js o))
+
 module _ (t : Table) (ns : List ℕ) (g : Good t ns) where
-  -- moves keep a plan over its table
   pub step-over : (p q : List ℕ) (a : ℕ) → over t p ≡ true → Step t p a q → over t q ≡ true
-  step-over [] q a h s = absurd s
-  step-over (j ∷ js) q a h (w, r, e) =
-      subst (λ l. over t l ≡ true) (sym e) (over-append t w js (g .closed j a w r) (over-tail t j js h))
+  step-over = closed-step t (g .closed)
 
   pub norm-positive : (j : ℕ) → j < t .jobs → 1 ≤ getD ns j 0
   norm-positive j h = omega (arith, g .falls j h .3)

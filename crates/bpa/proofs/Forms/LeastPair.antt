@@ -8,8 +8,7 @@ use Prim.Native.Nat.{ℕ, zero, suc, _<_}
 use native.Mathlib.Nat.{eq-or-lt-of-le}
 use native.Mathlib.Omega.{arith}
 use Rattle.bpa.specs.Method.{Base, precedes, first-of, least-pair}
-use Rattle.bpa.proofs.Basics.Plans.{and-left, and-right, and-both}
-use Rattle.bpa.proofs.Basics.Cases.{by-test, never-both}
+use Rattle.bpa.proofs.Basics.Cases.{by-test, and-left, and-right, and-both, never-both}
 use Rattle.bpa.proofs.Basics.Order.{precedes-total, precedes-trans}
 
 -- the base pairs a job with one that precedes it

@@ -10,7 +10,8 @@ use Rattle.bpa.specs.Plans.{Table, over}
 use Rattle.bpa.specs.Norms.{sum-of, Good}
 use Rattle.bpa.specs.Bisimilar.{Approx}
 use Rattle.bpa.specs.Method.{Rows, itself, candidate, expand, grow, differ, first-difference, Base, judge, judged}
-use Rattle.bpa.proofs.Basics.Plans.{and-both, over-head, over-one, over-left, over-right, sum-append, norm-positive}
+use Rattle.bpa.proofs.Basics.Plans.{over-head, over-one, over-left, over-right, sum-append, norm-positive}
+use Rattle.bpa.proofs.Basics.Cases.{and-both}
 use Rattle.bpa.proofs.Rounds.Approximants.{approx-sym, approx-trans, approx-mono, norms-agree}
 use Rattle.bpa.proofs.Rounds.Cancellation.{cancel-left, split, any-reduct}
 use Rattle.bpa.proofs.Rounds.Reductions.{reduces-over}

@@ -6,8 +6,8 @@ use mathlib.Core.Logic.{_⊎_, inl, inr}
 use Prim.Native.Nat.{ℕ, zero, suc, _<_}
 use Rattle.bpa.specs.Plans.{Table, over}
 use Rattle.bpa.specs.Method.{precedes, Rows, expand, grow, equal, ends, differ, first-difference, Base, turn, judge}
-use Rattle.bpa.proofs.Basics.Plans.{and-left, and-right, over-head, over-right}
-use Rattle.bpa.proofs.Basics.Cases.{by-test, never-both}
+use Rattle.bpa.proofs.Basics.Plans.{over-head, over-right}
+use Rattle.bpa.proofs.Basics.Cases.{by-test, and-left, and-right, never-both}
 use Rattle.bpa.proofs.Basics.Order.{precedes-total, precedes-once}
 use Rattle.bpa.proofs.Judge.Candidates.{Closed}
 use Rattle.bpa.proofs.Judge.Rows.{Rows-over, expand-over, grow-over}

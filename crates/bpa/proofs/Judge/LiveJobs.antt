@@ -10,8 +10,7 @@ use borrow.Author.Tests.{eqb-false, eq-eqb, ne-eqb}
 use Rattle.bpa.specs.Plans.{Table, over}
 use Rattle.bpa.specs.Norms.{sum-of}
 use Rattle.bpa.specs.Method.{Rows, expand, grow}
-use Rattle.bpa.proofs.Basics.Plans.{and-left, and-both}
-use Rattle.bpa.proofs.Basics.Cases.{by-test}
+use Rattle.bpa.proofs.Basics.Cases.{by-test, and-left, and-both}
 use Rattle.bpa.proofs.Basics.Counting.{count, count-more}
 use Rattle.bpa.proofs.Basics.EachJob.{Each, each-none, each-cons, each-over, each-norm, expand-each}
 use Rattle.bpa.proofs.Judge.Rows.{Rows-norm, instead, pair-row, expand-norm, grow-expand}

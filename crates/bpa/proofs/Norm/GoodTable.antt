@@ -12,7 +12,8 @@ use lib.ListN.{length, getD, List·getD-eq-default}
 use borrow.Author.Tests.{ltb-true}
 use Rattle.bpa.specs.Plans.{Rule, Table, all-below, over, HasRule}
 use Rattle.bpa.specs.Norms.{sum-of, all-known, norms, Good, rules-closed, none-missing, table-good}
-use Rattle.bpa.proofs.Basics.Plans.{over-head, over-tail, and-left, and-right}
+use Rattle.bpa.proofs.Basics.Plans.{over-head, over-tail}
+use Rattle.bpa.proofs.Basics.Cases.{and-left, and-right}
 use Rattle.bpa.proofs.Norm.KnownPlans.{known-cons}
 use Rattle.bpa.proofs.Norm.NormStable.{norms-length}
 use Rattle.bpa.proofs.Norm.NormExact.{job-by-rule, job-least}

@@ -7,7 +7,7 @@ use lib.Dec.{ltb}
 use lib.ListN.{getD}
 use borrow.Author.Tests.{ltb-true, lt-ltb}
 use Rattle.bpa.specs.Norms.{all-known}
-use Rattle.bpa.proofs.Basics.Plans.{and-left, and-right, and-both}
+use Rattle.bpa.proofs.Basics.Cases.{and-left, and-right, and-both}
 
 pub known-parts : (ns : List ℕ) (j : ℕ) (js : List ℕ) → all-known ns (j ∷ js) ≡ true → (0 < getD ns j 0) × (all-known ns js ≡ true)
 unfolding all-known

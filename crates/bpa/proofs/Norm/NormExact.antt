@@ -1,5 +1,5 @@
 -- The norm of a plan is the length of a shortest run to the empty plan, and is missing exactly if there is none. Assumes nothing.
-use mathlib.Core.Path.{_≡_, refl, sym, ap, subst}
+use mathlib.Core.Path.{_≡_, refl, ap, subst}
 use mathlib.Core.Bool.{true}
 use mathlib.Core.List.{List, [], _∷_, _++_}
 use mathlib.Core.Logic.{_↔_}
@@ -9,7 +9,7 @@ use native.Mathlib.Omega.{arith}
 use lib.ListN.{length, getD}
 use Rattle.bpa.specs.Plans.{Table, over, HasRule, Step, Runs, empty-run, longer-run}
 use Rattle.bpa.specs.Norms.{sum-of, all-known, norms, norm, Fewest, Endless}
-use Rattle.bpa.proofs.Basics.Plans.{over-head, over-tail, over-append, over-one, sum-append, sum-one}
+use Rattle.bpa.proofs.Basics.Plans.{over-head, over-one, sum-append, sum-one, closed-step}
 use Rattle.bpa.proofs.Norm.NormRounds.{Found, By-rule, next-by-rule, next-least}
 use Rattle.bpa.proofs.Norm.KnownPlans.{known-parts, known-cons, known-append, known-split}
 use Rattle.bpa.proofs.Norm.NormStable.{norms-stable}
@@ -42,11 +42,6 @@ module _ (t : Table) where
   norm-run p k = run-for (sum-of (norms t) p) p k refl
 
 module _ (t : Table) (closed : (j a : ℕ) (w : List ℕ) → HasRule t j a w → over t w ≡ true) where
-  pub closed-step : (p q : List ℕ) (a : ℕ) → over t p ≡ true → Step t p a q → over t q ≡ true
-  closed-step [] q a o s = absurd s
-  closed-step (j ∷ js) q a o (w, r, e) =
-      subst (λ l. over t l ≡ true) (sym e) (over-append t w js (closed j a w r) (over-tail t j js o))
-
   step-known : (p q : List ℕ) (a : ℕ) → over t p ≡ true → Step t p a q → all-known (norms t) q ≡ true →
       (all-known (norms t) p ≡ true) × (sum-of (norms t) p ≤ suc (sum-of (norms t) q))
   unfolding sum-of
@@ -60,7 +55,7 @@ module _ (t : Table) (closed : (j a : ℕ) (w : List ℕ) → HasRule t j a w �
       (all-known (norms t) p ≡ true) × (sum-of (norms t) p ≤ length run + sum-of (norms t) end)
   run-known (empty-run p) o k = (k, omega arith)
   run-known (longer-run p q a more end s r) o k =
-      let (b, c) = run-known r (closed-step p q a o s) k in
+      let (b, c) = run-known r (closed-step t closed p q a o s) k in
       let (d, f) = step-known p q a o s b in
       (d, omega arith)
 

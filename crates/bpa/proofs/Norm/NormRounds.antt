@@ -12,7 +12,7 @@ use lib.ListN.{length, getD, List·getD-eq-default}
 use borrow.Author.Tests.{eqb-true, eq-eqb}
 use Rattle.bpa.specs.Plans.{Rule, Table, HasRule}
 use Rattle.bpa.specs.Norms.{sum-of, all-known, lesser, best, one-round}
-use Rattle.bpa.proofs.Basics.Plans.{and-left, and-right, and-both}
+use Rattle.bpa.proofs.Basics.Cases.{and-left, and-right, and-both}
 
 -- a fact of a choice, from each side of it
 pub cond-elim : {A : Type 0} (P : A → Type 0) (b : Bool) (x y : A) → (b ≡ true → P x) → (b ≡ false → P y) → P (cond b x y)

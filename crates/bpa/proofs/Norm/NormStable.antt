@@ -14,8 +14,8 @@ use lib.Seq.{ext-getD}
 use borrow.Author.Tests.{ltb-true, lt-ltb, leb-true, le-leb}
 use Rattle.bpa.specs.Plans.{Table}
 use Rattle.bpa.specs.Norms.{sum-of, all-known, rounds, norms}
-use Rattle.bpa.proofs.Basics.Cases.{is-false}
-use Rattle.bpa.proofs.Basics.Plans.{and-left, and-right, and-both}
+use Rattle.bpa.proofs.Basics.Zeros.{zeros-at}
+use Rattle.bpa.proofs.Basics.Cases.{and-left, and-right, and-both, is-false}
 use Rattle.bpa.proofs.Norm.KnownPlans.{known-parts, known-cons}
 use Rattle.bpa.proofs.Basics.Counting.{count, count-le, count-more}
 use Rattle.bpa.proofs.Norm.NormRounds.{Found, By-rule, next, next-length, next-job, next-by-rule, next-least}
@@ -65,11 +65,6 @@ true-cheap ns v i e =
     let a = ltb 0 (getD ns i 0) in
     let b = leb (getD ns i 0) v in
     (ltb-true 0 (getD ns i 0) (and-left a b e), leb-true (getD ns i 0) v (and-right a b e))
-
-zeros-at : (n j : ℕ) → _≡_ {A = ℕ} (getD (replicate n 0) j 0) 0
-zeros-at zero j = refl
-zeros-at (suc n) zero = refl
-zeros-at (suc n) (suc j) = zeros-at n j
 
 not-yet : (ns : List ℕ) (v i : ℕ) → (Found v (getD ns i 0) → ⊥) → cheap ns v i ≡ false
 not-yet ns v i h = is-false (cheap ns v i) (λ e. h (true-cheap ns v i e))

@@ -5,7 +5,7 @@ use native.Mathlib.Omega.{arith}
 use borrow.Author.Needs.{needs}
 use Rattle.bpa.specs.Norms.{sum-of}
 use Rattle.bpa.proofs.Basics.JobsBelow.{below-at}
-use Rattle.form.proofs.Lengths.{sum-at, sum-end}
+use Rattle.bpa.proofs.Basics.Plans.{sum-at, sum-end}
 use lib.ListN.{length, getD, drop}
 use Rattle.form.proofs.form_length.Statement.{statement}
 use Rattle.form.proofs.form_length.Tie as tie

@@ -1,13 +1,11 @@
 -- `row_norm` meets its contract. The sum so far and the norm of what is left make the norm of the row. Assumes nothing.
 use mathlib.Core.Path.{_≡_, sym, ap, subst}
-use mathlib.Core.List.{List, []}
 use Prim.Native.Nat.{ℕ, _+_, _-_, _*_, _≤_, _<_}
 use native.Mathlib.Omega.{arith}
-use native.Mathlib.Numerals.{add-one}
-use lib.ListN.{length, getD, drop, drop-of-length-le}
-use lib.Seq.{drop-cons}
+use lib.ListN.{length, getD, drop}
 use borrow.Author.Needs.{needs}
 use Rattle.bpa.specs.Norms.{sum-of}
+use Rattle.bpa.proofs.Basics.Plans.{sum-at, sum-end}
 use Rattle.prepare.proofs.row_norm.Statement.{statement}
 use Rattle.prepare.proofs.row_norm.Tie as tie
 
@@ -39,11 +37,6 @@ most-at c =
     subst (λ (j : ℕ). getD (start .args .norms .now) j 0 ≤ 512) (sym (c .wide .ensures .is))
     (start .pre .most (at-loop .loop .i) (c .before .before .loop-test .taken))
 
--- one job more of the row
-sum-cons : (ns row : List ℕ) (i : ℕ) → i < length row → sum-of ns (drop i row) ≡ getD ns (getD row i 0) 0 + sum-of ns (drop (i + 1) row)
-unfolding sum-of
-sum-cons ns row i h = rw (add-one, drop-cons row i 0 h)
-
 mul-sum : tie.Need-mul-sum Inv-loop μ-loop
 mul-sum c = omega (arith, in-table c)
 
@@ -67,16 +60,13 @@ loop-again c =
     let row = start .args .row .now in
     let i = at-loop .loop .i in
     let same = ap (λ (j : ℕ). getD ns j 0) (c .before .wide .ensures .is) in
-    omega (arith, most-at (c .before), sum-cons ns row i (c .before .before .before .loop-test .taken))
+    omega (arith, most-at (c .before), sum-at ns row i (c .before .before .before .loop-test .taken))
 
 returns : tie.Need-returns Inv-loop μ-loop
-unfolding sum-of
 returns c =
     let start = c .before .before .before in
-    let row = start .args .row .now in
-    let e : drop (c .before .loop .i) row ≡ [] = drop-of-length-le row (c .loop-test .left) in
     record {
-      is = omega (arith, ap (sum-of (start .args .norms .now)) e);
+      is = omega (arith, sum-end (start .args .norms .now) (start .args .row .now) (c .before .loop .i) (c .loop-test .left));
       small = omega (arith, start .pre .few);
     }
 
