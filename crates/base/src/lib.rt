@@ -2,7 +2,7 @@
 use area::put_zeros;
 use area::wide;
 use fitting::fits;
-use judge::precedes;
+use order::precedes;
 use prepare::chain_rules;
 use prepare::mark_steps;
 ghost use mathlib.Core.Path.{_≡_};

@@ -5,25 +5,13 @@ use mathlib.Core.List.{List}
 use mathlib.Core.Logic.{_⊎_, inl, inr}
 use Prim.Native.Nat.{ℕ, zero, suc, _<_}
 use native.Mathlib.Omega.{arith}
-use lib.Dec.{ltb}
-use lib.ListN.{getD}
-use borrow.Author.Tests.{le-ltb, eq-eqb}
 use Rattle.bpa.specs.Method.{precedes, Rows, expand, grow, differ, first-difference, Base, judge}
 use Rattle.bpa.proofs.Basics.Cases.{by-test}
-use Rattle.bpa.proofs.Basics.Order.{less-precedes, precedes-le, precedes-once, precedes-total}
+use Rattle.bpa.proofs.Basics.Order.{precedes-le, precedes-total}
 use Rattle.bpa.proofs.Judge.JudgeTurns.{judge-spent, judge-right-greater, judge-left-greater}
 use Rattle.candidate.specs.Ready.{Pair}
 use Rattle.judge.specs.declared.Verdict.the-variants.{Apart, Replace}
 use Rattle.judge.specs.Verdicts.{verdict-on}
-
--- the order, test by test
-module _ (ns : List ℕ) (x y : ℕ) where
-  pub greater-norm : getD ns y 0 < getD ns x 0 → precedes ns x y ≡ false
-  greater-norm l = precedes-once ns y x (less-precedes ns y x l)
-
-  pub equal-norm : getD ns x 0 ≡ getD ns y 0 → precedes ns x y ≡ ltb x y
-  unfolding precedes
-  equal-norm e = rw (le-ltb (getD ns x 0) (getD ns y 0) (omega arith), eq-eqb (getD ns x 0) (getD ns y 0) e)
 
 -- what is left of the judge once a job is replaced: nothing without fuel
 abbrev pub go-on : (norms : List ℕ) → (cand : ℕ → ℕ → List ℕ) → Base → (p q : List ℕ) → (fuel : ℕ) → Rows → Bool
