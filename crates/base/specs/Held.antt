@@ -6,7 +6,7 @@ use Prim.Native.Nat.{ℕ, suc, _/_, _%_, _<_}
 use lib.Dec.{ltb}
 use lib.ListN.{length, getD}
 use Rattle.bpa.specs.Method.{fits, final-base}
-use Rattle.bpa.proofs.Judge.JudgeComplete.{Full}
+use Rattle.bpa.specs.Bases.{Full}
 use Rattle.rules.specs.Places.{table-of}
 use Rattle.judge.specs.Judging.{byte-base}
 use Rattle.matching.specs.Remembered.{Remembered}

@@ -3,3 +3,4 @@ pub mod Plans
 pub mod Norms
 pub mod Bisimilar
 pub mod Method
+pub mod Bases

@@ -10,9 +10,10 @@ use borrow.Author.Tests.{ltb-true, ltb-false}
 use Rattle.bpa.specs.Plans.{Table, Move, over}
 use Rattle.bpa.specs.Norms.{Good}
 use Rattle.bpa.specs.Method.{Base, precedes, candidate, judged}
+use Rattle.bpa.specs.Bases.{Ordered-pairs}
 use Rattle.bpa.proofs.Basics.Cases.{by-test, and-left, and-right, and-both, is-false, never-both}
 use Rattle.bpa.proofs.Basics.Plans.{over-append, over-none}
-use Rattle.bpa.proofs.Basics.Order.{Ordered-pairs, less-precedes, precedes-le}
+use Rattle.bpa.proofs.Basics.Order.{less-precedes, precedes-le}
 use Rattle.bpa.proofs.Judge.Candidates.{candidate-over}
 use Rattle.bpa.proofs.Judge.JudgeMonotone.{judged-monotone}
 use Rattle.rules.specs.Places.{rule-at, rule-count, table-of}

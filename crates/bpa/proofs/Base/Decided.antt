@@ -8,11 +8,11 @@ use Rattle.bpa.specs.Plans.{Table, over}
 use Rattle.bpa.specs.Norms.{sum-of, Good}
 use Rattle.bpa.specs.Bisimilar.{Simulates, Approx, Bisimulation, Bisimilar}
 use Rattle.bpa.specs.Method.{candidate, Base, judged, final-base}
+use Rattle.bpa.specs.Bases.{Ordered-pairs}
 use Rattle.bpa.proofs.Basics.Plans.{step-over}
 use Rattle.bpa.proofs.Rounds.Approximants.{approx-sym}
 use Rattle.bpa.proofs.Rounds.Equivalence.{Equivalent}
 use Rattle.bpa.proofs.Basics.Cases.{same-test, never-both}
-use Rattle.bpa.proofs.Basics.Order.{Ordered-pairs}
 use Rattle.bpa.proofs.Judge.Candidates.{candidates-closed}
 use Rattle.bpa.proofs.Judge.JudgeMonotone.{judged-symmetric, judged-in-range}
 use Rattle.bpa.proofs.Judge.JudgeSound.{judged-sound}

@@ -6,8 +6,8 @@ use Prim.Native.Nat.{ℕ, _<_}
 use Rattle.bpa.specs.Plans.{Table, over}
 use Rattle.bpa.specs.Norms.{Good}
 use Rattle.bpa.specs.Method.{Base, precedes, candidate, final-base}
+use Rattle.bpa.specs.Bases.{Full}
 use Rattle.bpa.proofs.Rounds.Equivalence.{Equivalent}
-use Rattle.bpa.proofs.Judge.JudgeComplete.{Full}
 use Rattle.bpa.proofs.Base.Refinement.{Stable, final-level, final-stable, final-full}
 use Rattle.bpa.proofs.Base.StableBase.{stable-sound}
 

@@ -12,6 +12,7 @@ use Rattle.bpa.specs.Plans.{Rule, Table, over, Step}
 use Rattle.bpa.specs.Norms.{sum-of, Good}
 use Rattle.bpa.specs.Bisimilar.{Approx}
 use Rattle.bpa.specs.Method.{precedes, candidate, Base, judged, fits}
+use Rattle.bpa.specs.Bases.{Full}
 use Rattle.bpa.proofs.Basics.Plans.{over-one, over-cons, sum-append, step-over}
 use Rattle.bpa.proofs.Rounds.Approximants.{approx-sym, approx-mono}
 use Rattle.bpa.proofs.Rounds.Cancellation.{any-reduct}
@@ -20,7 +21,7 @@ use Rattle.bpa.proofs.Basics.Order.{precedes-le}
 use Rattle.bpa.proofs.Judge.Candidates.{candidate-reduces, candidate-over}
 use Rattle.bpa.proofs.Base.Matching.{simulates-matched}
 use Rattle.bpa.proofs.Judge.JudgeMonotone.{judged-symmetric}
-use Rattle.bpa.proofs.Judge.JudgeComplete.{Full, rounds-for, rounds-least, judged-complete}
+use Rattle.bpa.proofs.Judge.JudgeComplete.{rounds-for, rounds-least, judged-complete}
 
 pub full-higher : (t : Table) (ns : List ℕ) (n m : ℕ) (b : Base) → n ≤ m → Full t ns n b → Full t ns m b
 full-higher t ns n m b l full y x hy hx o δ oδ h = full y x hy hx o δ oδ (approx-mono t n m (y ∷ []) (x ∷ δ) l h)

@@ -10,9 +10,8 @@ use borrow.Author.Tests.{eqb-true, eqb-false}
 use Rattle.bpa.specs.Plans.{Table}
 use Rattle.bpa.specs.Norms.{Good}
 use Rattle.bpa.specs.Method.{precedes, Base, fits, Pair, holds, first-base, round, refine, final-base}
+use Rattle.bpa.specs.Bases.{Ordered-pairs, Full}
 use Rattle.bpa.proofs.Basics.Cases.{by-test, and-left, and-right, and-both}
-use Rattle.bpa.proofs.Basics.Order.{Ordered-pairs}
-use Rattle.bpa.proofs.Judge.JudgeComplete.{Full}
 use Rattle.bpa.proofs.Base.FullBase.{full-higher, next-level, level-rises, full-fits}
 use Rattle.bpa.proofs.Base.Pairs.{holds-keep, keep-shorter, keep-all, first-within, first-holds}
 

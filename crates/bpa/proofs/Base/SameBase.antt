@@ -9,11 +9,10 @@ use Rattle.bpa.specs.Plans.{Table, over, HasRule, Step}
 use Rattle.bpa.specs.Norms.{sum-of, Good}
 use Rattle.bpa.specs.Bisimilar.{Approx}
 use Rattle.bpa.specs.Method.{precedes, Base, fits, final-base}
+use Rattle.bpa.specs.Bases.{Ordered-pairs, Full}
 use Rattle.bpa.proofs.Basics.Cases.{by-test, same-test, never-both}
-use Rattle.bpa.proofs.Basics.Order.{Ordered-pairs}
 use Rattle.bpa.proofs.Basics.Plans.{over-one, over-cons, sum-append, step-over}
 use Rattle.bpa.proofs.Rounds.Approximants.{approx-sym, norms-agree}
-use Rattle.bpa.proofs.Judge.JudgeComplete.{Full}
 use Rattle.bpa.proofs.Base.FullBase.{most, norm-bound, step-bound, next-level, level-rises, full-fits, Others-held, full-without}
 use Rattle.bpa.proofs.Base.Refinement.{Stable, Within, final-within}
 use Rattle.bpa.proofs.Base.ExactBase.{stable-exact, exact-base}

@@ -8,7 +8,6 @@ use native.Mathlib.Omega.{arith}
 use lib.Dec.{ltb, eqb}
 use lib.ListN.{getD}
 use borrow.Author.Tests.{ltb-true, ltb-false, lt-ltb, eqb-true, eq-eqb}
-use Rattle.bpa.specs.Plans.{Table}
 use Rattle.bpa.specs.Method.{precedes}
 use Rattle.bpa.proofs.Basics.Cases.{by-test, and-left, and-right, and-both, or-cases, or-right, is-false, never-both}
 
@@ -66,7 +65,3 @@ module _ (ns : List ℕ) where
       omega (arith, ltb-false (getD ns y 0) (getD ns x 0) k, ltb-false (getD ns x 0) (getD ns y 0) l) in
       by-test (ltb x y) (λ m. absurd (never-both (precedes ns x y) (tie-precedes x y e (ltb-true x y m)) h))
       (λ m. tie-precedes y x (omega arith) (omega (arith, ltb-false x y m)))))
-
--- what holds of every two jobs of a table in this order: the pairs of bases, and what the judge asks for
-abbrev pub Ordered-pairs : Table → (norms : List ℕ) → (ℕ → ℕ → Type 0) → Type 0
-Ordered-pairs t ns P = (y x : ℕ) → y < t .jobs → x < t .jobs → precedes ns x y ≡ true → P y x

@@ -11,10 +11,11 @@ use borrow.Author.Tests.{eqb-true, eq-eqb}
 use Rattle.bpa.specs.Plans.{Rule, Table, over}
 use Rattle.bpa.specs.Norms.{sum-of, Good}
 use Rattle.bpa.specs.Method.{lowering, lower-by, candidate}
+use Rattle.bpa.specs.Bases.{Ordered-pairs}
 use Rattle.bpa.proofs.Basics.Plans.{over-head, over-tail, over-one, over-append, sum-append, sum-one, norm-zero}
 use Rattle.bpa.proofs.Rounds.Reductions.{Reduces, reduces-over, reduces-norm}
 use Rattle.bpa.proofs.Basics.Cases.{by-test, and-left, and-right, and-both, never-both}
-use Rattle.bpa.proofs.Basics.Order.{precedes-le, Ordered-pairs}
+use Rattle.bpa.proofs.Basics.Order.{precedes-le}
 
 abbrev pub Closed : Table → (norms : List ℕ) → (cand : ℕ → ℕ → List ℕ) → Type 0
 Closed t ns c = Ordered-pairs t ns (λ y x. over t (c y x) ≡ true)

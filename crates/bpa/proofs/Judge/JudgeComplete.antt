@@ -10,23 +10,19 @@ use Rattle.bpa.specs.Plans.{Table, over}
 use Rattle.bpa.specs.Norms.{sum-of, Good}
 use Rattle.bpa.specs.Bisimilar.{Approx}
 use Rattle.bpa.specs.Method.{Rows, itself, candidate, expand, grow, differ, first-difference, Base, judge, judged}
+use Rattle.bpa.specs.Bases.{Full}
 use Rattle.bpa.proofs.Basics.Plans.{over-head, over-one, over-left, over-right, sum-append, norm-positive}
 use Rattle.bpa.proofs.Basics.Cases.{and-both}
 use Rattle.bpa.proofs.Rounds.Approximants.{approx-sym, approx-trans, approx-mono, norms-agree}
 use Rattle.bpa.proofs.Rounds.Cancellation.{cancel-left, split, any-reduct}
 use Rattle.bpa.proofs.Rounds.Reductions.{reduces-over}
-use Rattle.bpa.proofs.Basics.Order.{precedes-le, precedes-distinct, Ordered-pairs}
+use Rattle.bpa.proofs.Basics.Order.{precedes-le, precedes-distinct}
 use Rattle.bpa.proofs.Judge.Candidates.{candidate-reduces, candidate-over, candidate-norm}
 use Rattle.bpa.proofs.Basics.Counting.{count, count-le}
 use Rattle.bpa.proofs.Judge.Rows.{itself-over, itself-norm, itself-match, Rows-over, Rows-norm, Rows-match, expand-over, expand-norm, expand-match, grow-over, grow-norm, grow-match}
 use Rattle.bpa.proofs.Judge.LiveJobs.{Live, Rows-live, expand-live, without, without-fewer, grow-live}
 use Rattle.bpa.proofs.Judge.Differences.{by-difference, Parted, parted-swap, Longer, ends-longer}
 use Rattle.bpa.proofs.Judge.JudgeTurns.{judge-equal, Turn, turn-of, judge-turn}
-
--- a base is full at a level if it holds each pair whose sides match for that many rounds, the lesser job followed by any plan
-abbrev pub Full : Table → (norms : List ℕ) → (level : ℕ) → Base → Type 0
-Full t ns n b = Ordered-pairs t ns
-    (λ y x. (δ : List ℕ) → over t δ ≡ true → Approx t n (y ∷ []) (x ∷ δ) → b y x ≡ true)
 
 -- rounds enough for a judge: each turn may cost twice the norm
 unfoldable pub rounds-for : (level norm fuel : ℕ) → ℕ

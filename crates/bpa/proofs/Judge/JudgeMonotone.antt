@@ -6,8 +6,9 @@ use Prim.Native.Nat.{ℕ, zero, suc, _<_}
 use Rattle.bpa.specs.Plans.{Table, over}
 use Rattle.bpa.specs.Norms.{Good}
 use Rattle.bpa.specs.Method.{precedes, Rows, expand, grow, Difference, equal, ends, differ, first-difference, Base, itself, candidate, judge, judged}
+use Rattle.bpa.specs.Bases.{Ordered-pairs}
 use Rattle.bpa.proofs.Basics.Cases.{by-test, and-both, same-test}
-use Rattle.bpa.proofs.Basics.Order.{precedes-total, precedes-once, Ordered-pairs}
+use Rattle.bpa.proofs.Basics.Order.{precedes-total, precedes-once}
 use Rattle.bpa.proofs.Judge.Candidates.{Closed, candidates-closed}
 use Rattle.bpa.proofs.Judge.Rows.{itself-over, Rows-over, expand-in-range}
 use Rattle.bpa.proofs.Judge.Differences.{by-difference, differ-parts, flip-sides, difference-flip}

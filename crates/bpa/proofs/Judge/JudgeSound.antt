@@ -7,8 +7,9 @@ use Rattle.bpa.specs.Plans.{Table, over}
 use Rattle.bpa.specs.Norms.{sum-of, Good}
 use Rattle.bpa.specs.Bisimilar.{Approx}
 use Rattle.bpa.specs.Method.{Rows, itself, candidate, expand, Base, judge, judged}
+use Rattle.bpa.specs.Bases.{Ordered-pairs}
 use Rattle.bpa.proofs.Rounds.Approximants.{approx-sym, approx-trans}
-use Rattle.bpa.proofs.Basics.Order.{precedes-le, Ordered-pairs}
+use Rattle.bpa.proofs.Basics.Order.{precedes-le}
 use Rattle.bpa.proofs.Judge.Candidates.{candidate-norm, candidates-closed}
 use Rattle.bpa.proofs.Judge.Rows.{itself-over, itself-norm, itself-match, Rows-over, Rows-norm, Rows-match, expand-norm, expand-match, grow-norm, grow-match}
 use Rattle.bpa.proofs.Judge.Differences.{equal-difference}
