@@ -1,5 +1,5 @@
 -- Laws of a base as bytes.
 pub mod Bytes
-pub mod Dropping
-pub mod Firsts
-pub mod Passing
+pub mod DroppedPairs
+pub mod FirstBase
+pub mod BasePass

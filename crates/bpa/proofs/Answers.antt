@@ -11,7 +11,7 @@ use Rattle.bpa.specs.Bisimilar.{Approx, Any-bisimulation, Bisimilar, Low
 use Rattle.bpa.specs.Method.{Base, final-base, same, prime-form}
 use Rattle.bpa.proofs.Rounds.Equivalence.{Equivalent, any-within, bisimilar-equivalent, equivalent-norm}
 use Rattle.bpa.proofs.Base.ExactBase.{Exact, exact-base}
-use Rattle.bpa.proofs.Base.Decided.{deciding-rounds, judged-equivalent, equivalent-judged, judged-apart, equivalent-bisimilar}
+use Rattle.bpa.proofs.Base.MethodDecides.{deciding-rounds, judged-equivalent, equivalent-judged, judged-apart, equivalent-bisimilar}
 use Rattle.bpa.proofs.Forms.PrimeForms.{form-of, form-twice, form-same, form-tells}
 use Rattle.bpa.proofs.Forms.FormMeaning.{lowest-form, form-there, form-only, forms-same, forms-tell, form-the-longest}
 

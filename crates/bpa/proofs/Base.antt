@@ -1,9 +1,9 @@
 -- The base by rounds is exact, so the method decides.
-pub mod Matching
+pub mod MatchedMoves
 pub mod FullBase
 pub mod Pairs
 pub mod Refinement
 pub mod StableBase
 pub mod ExactBase
-pub mod Decided
+pub mod MethodDecides
 pub mod SameBase

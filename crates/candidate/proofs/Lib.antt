@@ -2,4 +2,4 @@
 pub mod Buffer
 pub mod Tables
 pub mod Walk
-pub mod WalkIn
+pub mod WalkInBuffer

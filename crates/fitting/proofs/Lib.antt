@@ -1,4 +1,4 @@
 -- Laws of matching the rules of the two sides of a pair.
-pub mod Knowing
-pub mod Walking
-pub mod Fitting
+pub mod KnownRules
+pub mod ChainLoops
+pub mod PairFits

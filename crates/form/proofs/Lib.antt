@@ -1,3 +1,3 @@
 -- Laws of writing forms.
 pub mod Lengths
-pub mod Telling
+pub mod EqualPlans

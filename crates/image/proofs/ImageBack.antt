@@ -14,12 +14,12 @@ use Rattle.image.specs.Image.{block, blocks-in, rules-in-block, block-pl
 use Rattle.image.specs.Writing.{blocks-for, rules-for, written-block, written-from, written, list-refusal, write-refusal}
 use Rattle.image.specs.Filling.{filled}
 use Rattle.image.proofs.Blocks.{block-length, block-cons}
-use Rattle.image.proofs.Accepted.{LaidOut, laid-out}
-use Rattle.image.proofs.Held.{rules-from, places-length, from-later, count-is, count-bounds, image-length, image-listed}
+use Rattle.image.proofs.AcceptedImages.{LaidOut, laid-out}
+use Rattle.image.proofs.HeldTable.{rules-from, places-length, from-later, count-is, count-bounds, image-length, image-listed}
 use Rattle.image.proofs.ImageList.{count-later, first-of}
 use Rattle.image.proofs.ListRefusal.{neither, both}
 use Rattle.image.proofs.BlockParts.{block-filled}
-use Rattle.image.proofs.Written.{part, filled-is}
+use Rattle.image.proofs.WrittenImages.{part, filled-is}
 
 module _ (bs : List ℕ) (g : LaidOut bs) where
   module _ (k m : ℕ) (last : k + suc m ≡ blocks-in bs) where

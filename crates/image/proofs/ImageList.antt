@@ -6,8 +6,8 @@ use native.Mathlib.Nat.{zero-add, add-zero, suc-add}
 use native.Mathlib.Omega.{arith}
 use Rattle.rules.specs.Lists.{GoodList}
 use Rattle.image.specs.Image.{block, blocks-in, rules-in-block, image-jobs, image-places, layout-refusal}
-use Rattle.image.proofs.Accepted.{LaidOut, laid-out}
-use Rattle.image.proofs.Held.{rules-from, held}
+use Rattle.image.proofs.AcceptedImages.{LaidOut, laid-out}
+use Rattle.image.proofs.HeldTable.{rules-from, held}
 
 module _ (bs : List ℕ) (g : LaidOut bs) where
   -- 63 rules stand in each block before the last

@@ -1,11 +1,11 @@
 -- Laws of images: what each check gives, what an accepted image holds, and the round trips.
 pub mod Refusals
 pub mod Blocks
-pub mod Accepted
+pub mod AcceptedImages
 pub mod PlaceRows
 pub mod ListRefusal
-pub mod Held
-pub mod Written
+pub mod HeldTable
+pub mod WrittenImages
 pub mod Zeros
 pub mod BlockParts
 pub mod ImageList

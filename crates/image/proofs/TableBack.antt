@@ -14,10 +14,10 @@ use Rattle.image.specs.Image.{checksum, block, blocks-in, block-places, 
 use Rattle.image.specs.Writing.{blocks-for, rules-for, written, list-refusal, write-refusal}
 use Rattle.image.specs.Filling.{filled}
 use Rattle.image.proofs.Blocks.{Head, blocks-are}
-use Rattle.image.proofs.Accepted.{LaidOut, accepted}
+use Rattle.image.proofs.AcceptedImages.{LaidOut, accepted}
 use Rattle.image.proofs.ListRefusal.{neither, both, good-list}
 use Rattle.image.proofs.BlockChecks.{filled-jobs, filled-rules, filled-sum, filled-number, filled-blocks, filled-places, filled-good}
-use Rattle.image.proofs.Written.{part, part-length, part-few, written-size}
+use Rattle.image.proofs.WrittenImages.{part, part-length, part-few, written-size}
 use Rattle.image.proofs.WrittenBlocks.{blocks-bounds, rules-bounds, part-good, block-written}
 
 module _ (n : ℕ) (rs : List ℕ) (g : GoodList n rs) where

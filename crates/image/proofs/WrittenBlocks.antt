@@ -14,7 +14,7 @@ use Rattle.image.specs.Writing.{blocks-for, rules-for, written-block, wr
 use Rattle.image.specs.Filling.{filled}
 use Rattle.bpa.proofs.Basics.Cases.{and-left, and-right}
 use Rattle.image.proofs.PlaceRows.{places-split}
-use Rattle.image.proofs.Written.{part, block-size, filled-is}
+use Rattle.image.proofs.WrittenImages.{part, block-size, filled-is}
 
 module _ (n : ℕ) (rs : List ℕ) (g : GoodList n rs) where
   pub blocks-bounds : (1 ≤ blocks-for rs) × (blocks-for rs ≤ 4) × (rule-count rs ≤ 63 * blocks-for rs) × (63 * blocks-for rs ≤ rule-count rs + 62)

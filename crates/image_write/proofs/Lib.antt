@@ -1,2 +1,2 @@
 -- Laws of the writer.
-pub mod Filled
+pub mod FilledBlock

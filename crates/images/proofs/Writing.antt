@@ -8,7 +8,7 @@ use lib.ListN.{length, drop}
 use Rattle.rules.specs.Places.{rule-count}
 use Rattle.image.specs.Writing.{write-refusal, written, blocks-for}
 use Rattle.image.proofs.ListRefusal.{good-list}
-use Rattle.image.proofs.Written.{written-size}
+use Rattle.image.proofs.WrittenImages.{written-size}
 use Rattle.answer.specs.Answer.{signed, Writes}
 use Rattle.answer.proofs.Writing.{writes-refused, writes-short, writes-bytes}
 use Rattle.table.specs.Loading.{RefusesWriting}

@@ -1,5 +1,5 @@
 -- Laws of verdicts, of rows that stand for their jobs, of the jobs replaced so far, and of the judge's turns.
-pub mod Deciding
-pub mod Standing
-pub mod Replaced
-pub mod Going
+pub mod Verdicts
+pub mod RowsStand
+pub mod ReplacedJobs
+pub mod JudgeLoop

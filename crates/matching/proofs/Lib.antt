@@ -1,6 +1,6 @@
 -- Laws of matching the rules of a pair of jobs.
 pub mod Buffers
-pub mod Answering
-pub mod Searching
+pub mod RuleAnswers
+pub mod RuleSearch
 pub mod Memory
-pub mod Shrinking
+pub mod SmallerBase

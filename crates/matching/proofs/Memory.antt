@@ -19,7 +19,7 @@ use Rattle.prepare.proofs.Chains.{chain-start, start-gap}
 use Rattle.judge.specs.Judging.{byte-base}
 use Rattle.matching.specs.Pairs.{answers, near, far, Faces}
 use Rattle.matching.specs.Remembered.{pair-answers, memory-in, Remembered, Asking}
-use Rattle.matching.proofs.Searching.{None-before}
+use Rattle.matching.proofs.RuleSearch.{None-before}
 
 -- THE AREA: a byte of the memory read and written, and the rows in front of it lent
 module _ (area : List ℕ) where

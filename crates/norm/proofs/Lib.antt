@@ -1,6 +1,6 @@
 -- Laws of norms as an array.
 pub mod Lesser
-pub mod Pass
+pub mod RoundPass
 pub mod RuleNorm
 pub mod Agreement
-pub mod Settled
+pub mod NormsByRounds

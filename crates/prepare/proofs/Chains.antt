@@ -11,8 +11,8 @@ use Rattle.bpa.specs.Plans.{Move, job-moves}
 use Rattle.bpa.proofs.Basics.Cases.{never-both}
 use Rattle.rules.specs.Places.{rule-at, rule-count}
 use Rattle.prepare.specs.Prepared.{all-rules, seek, of-job, move-of, Chained, OnChain}
-use Rattle.prepare.proofs.Seek.{all-length, all-cons, seek-within, seek-passes, seek-before, all-at, moves-from, moves-here, moves-past}
-use Rattle.prepare.proofs.Fill.{own-job, job-own}
+use Rattle.prepare.proofs.FirstRule.{all-length, all-cons, seek-within, seek-passes, seek-before, all-at, moves-from, moves-here, moves-past}
+use Rattle.prepare.proofs.FirstRuleArray.{own-job, job-own}
 
 -- the moves of a job by the rules from a position on, with a plan behind
 abbrev pub moves-at : (rules : List ℕ) → (job : ℕ) → (behind : List ℕ) → (position : ℕ) → List Move

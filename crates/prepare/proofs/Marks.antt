@@ -18,8 +18,8 @@ use Rattle.bpa.proofs.Basics.Cases.{by-test, never-both}
 use Rattle.bpa.proofs.Base.SameBase.{Follows, Same-steps}
 use Rattle.rules.specs.Places.{rule-at, rule-count, table-of}
 use Rattle.prepare.specs.Prepared.{all-rules, of-job, step-bit, mark, Marked}
-use Rattle.prepare.proofs.Seek.{all-cons, all-end}
-use Rattle.prepare.proofs.Fill.{own-job, job-own}
+use Rattle.prepare.proofs.FirstRule.{all-cons, all-end}
+use Rattle.prepare.proofs.FirstRuleArray.{own-job, job-own}
 
 -- BITS JOINED
 digit : (a b : ℕ) → max (a % 2) (b % 2) < 2

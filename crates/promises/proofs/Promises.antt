@@ -9,7 +9,7 @@ use Rattle.bpa.specs.Norms.{norms, norm}
 use Rattle.bpa.proofs.Basics.Plans.{step-over, over-one, over-append, over-left, over-right, sum-one}
 use Rattle.bpa.proofs.Rounds.Equivalence.{bisimilar-equivalent, equivalent-append, equivalent-cancel-left, equivalent-cancel-right}
 use Rattle.moves.proofs.NoSuchMove as nth
-use Rattle.bpa.proofs.Base.Decided.{equivalent-bisimilar}
+use Rattle.bpa.proofs.Base.MethodDecides.{equivalent-bisimilar}
 use Rattle.bpa.proofs.Forms.FormMeaning.{stands-lowest}
 use Rattle.bpa.proofs.Basics.Cases.{never-both}
 use Rattle.bpa.proofs.Basics.Moves.{moves-are-steps, steps-are-moves}

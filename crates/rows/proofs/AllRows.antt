@@ -14,7 +14,7 @@ use Rattle.rows.specs.Region.{row, Within}
 use Rattle.rows.specs.Replacing.{occurrences, Replaceable, Begins, replaced, AllReplaceable, Visits, NewRows}
 use Rattle.area.proofs.Parts.{part}
 use Rattle.rows.proofs.Occurrences.{replace-none, length-replace}
-use Rattle.rows.proofs.Among.{Among, Missing, among}
+use Rattle.rows.proofs.ListedJobs.{Among, Missing, among}
 
 -- the part of the region that belongs to a job
 abbrev pub block : (region : List ℕ) → (j : ℕ) → List ℕ

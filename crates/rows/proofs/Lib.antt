@@ -3,9 +3,9 @@ pub mod Heads
 pub mod Parts
 pub mod Cursors
 pub mod Occurrences
-pub mod Rewriting
-pub mod Among
+pub mod RowReplacement
+pub mod ListedJobs
 pub mod AllRows
 pub mod WrittenPlans
 pub mod Singles
-pub mod Growing
+pub mod PairReplacement

@@ -4,7 +4,7 @@ use mathlib.Core.List.{List}
 use Prim.Native.Nat.{ℕ}
 use borrow.Author.Needs.{needs}
 use Rattle.matching.specs.Remembered.{memory-in, Remembered}
-use Rattle.base.proofs.Passing.{memory-cleared}
+use Rattle.base.proofs.BasePass.{memory-cleared}
 use Rattle.base.proofs.final_base.Statement.{statement}
 use Rattle.base.proofs.final_base.Tie as tie
 

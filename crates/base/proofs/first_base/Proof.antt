@@ -8,7 +8,7 @@ use Rattle.bpa.proofs.Base.SameBase.{Same-steps}
 use Rattle.rules.specs.Places.{table-of}
 use Rattle.prepare.proofs.Marks.{same-mark}
 use Rattle.base.specs.Held.{PairPlace}
-use Rattle.base.proofs.Firsts.{First, first-none, first-without, first-with, first-held}
+use Rattle.base.proofs.FirstBase.{First, first-none, first-without, first-with, first-held}
 use Rattle.base.proofs.first_base.Statement.{statement}
 use Rattle.base.proofs.first_base.Tie as tie
 

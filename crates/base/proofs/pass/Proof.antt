@@ -6,7 +6,7 @@ use native.Mathlib.Omega.{arith}
 use lib.ListN.{getD}
 use borrow.Author.Needs.{needs}
 use Rattle.base.proofs.Bytes.{above-zero, place-pair}
-use Rattle.base.proofs.Passing.{Passing, pass-none, pass-on, pass-drop, pass-end}
+use Rattle.base.proofs.BasePass.{Passing, pass-none, pass-on, pass-drop, pass-end}
 use Rattle.base.proofs.pass.Statement.{statement}
 use Rattle.base.proofs.pass.Tie as tie
 

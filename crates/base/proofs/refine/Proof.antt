@@ -9,7 +9,7 @@ use Rattle.rules.specs.Places.{table-of}
 use Rattle.judge.specs.Judging.{byte-base}
 use Rattle.matching.specs.Remembered.{memory-in, Remembered}
 use Rattle.base.specs.Held.{ones, Held}
-use Rattle.base.proofs.Dropping.{held-final}
+use Rattle.base.proofs.DroppedPairs.{held-final}
 use Rattle.base.proofs.refine.Statement.{statement}
 use Rattle.base.proofs.refine.Tie as tie
 

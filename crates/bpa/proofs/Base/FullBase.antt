@@ -19,7 +19,7 @@ use Rattle.bpa.proofs.Rounds.Cancellation.{any-reduct}
 use Rattle.bpa.proofs.Basics.Cases.{by-test, and-left, and-right, and-both, never-both}
 use Rattle.bpa.proofs.Basics.Order.{precedes-le}
 use Rattle.bpa.proofs.Judge.Candidates.{candidate-reduces, candidate-over}
-use Rattle.bpa.proofs.Base.Matching.{simulates-matched}
+use Rattle.bpa.proofs.Base.MatchedMoves.{simulates-matched}
 use Rattle.bpa.proofs.Judge.JudgeMonotone.{judged-symmetric}
 use Rattle.bpa.proofs.Judge.JudgeComplete.{rounds-for, rounds-least, judged-complete}
 

@@ -16,7 +16,7 @@ use Rattle.bpa.proofs.Rounds.Approximants.{approx-sym, norms-agree}
 use Rattle.bpa.proofs.Base.FullBase.{most, norm-bound, step-bound, next-level, level-rises, full-fits, Others-held, full-without}
 use Rattle.bpa.proofs.Base.Refinement.{Stable, Within, final-within}
 use Rattle.bpa.proofs.Base.ExactBase.{stable-exact, exact-base}
-use Rattle.bpa.proofs.Base.Decided.{exact-agree}
+use Rattle.bpa.proofs.Base.MethodDecides.{exact-agree}
 
 module _ (t : Table) (ns : List ℕ) (g : Good t ns) where
   pub same-base : (b : Base) (n : ℕ) → Within t ns b → Full t ns n b → Stable t ns b →

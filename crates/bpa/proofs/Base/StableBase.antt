@@ -10,7 +10,7 @@ use Rattle.bpa.specs.Method.{candidate, Base, judged, fits}
 use Rattle.bpa.proofs.Basics.Plans.{over-one, over-cons, step-over}
 use Rattle.bpa.proofs.Basics.Order.{precedes-le}
 use Rattle.bpa.proofs.Judge.Candidates.{candidate-over}
-use Rattle.bpa.proofs.Base.Matching.{matched-simulates}
+use Rattle.bpa.proofs.Base.MatchedMoves.{matched-simulates}
 use Rattle.bpa.proofs.Judge.JudgeSound.{Sound, judged-sound}
 use Rattle.bpa.proofs.Base.Refinement.{Stable}
 

@@ -2,7 +2,7 @@
 use native.Mathlib.Omega.{arith}
 use lib.ListN.{getD}
 use Rattle.rules.specs.Places.{table-of}
-use Rattle.candidate.proofs.WalkIn.{WalkIn, begin-in, has-head, job-in, norm-in, drop-in, rule-in, room-in, step-in, end-in}
+use Rattle.candidate.proofs.WalkInBuffer.{WalkIn, begin-in, has-head, job-in, norm-in, drop-in, rule-in, room-in, step-in, end-in}
 use Rattle.candidate.proofs.candidate.Statement.{statement}
 use Rattle.candidate.proofs.candidate.Tie as tie
 

@@ -16,8 +16,8 @@ use Rattle.matching.specs.Remembered.{memory-in, Remembered, Asking, Answering}
 use Rattle.matching.proofs.Buffers.{behind-kept, kept-same, kept-then}
 use Rattle.matching.proofs.Memory.{byte-read}
 use Rattle.fitting.specs.Fits.{Known}
-use Rattle.fitting.proofs.Knowing.{faces-distinct, known-more}
-use Rattle.fitting.proofs.Walking.{Walk, walk-start, walk-next, all-but-one, all-and-one, all-none}
+use Rattle.fitting.proofs.KnownRules.{faces-distinct, known-more}
+use Rattle.fitting.proofs.ChainLoops.{Walk, walk-start, walk-next, all-but-one, all-and-one, all-none}
 use Rattle.fitting.proofs.all_answered.Statement.{statement}
 use Rattle.fitting.proofs.all_answered.Tie as tie
 

@@ -11,8 +11,8 @@ use Rattle.bpa.proofs.Basics.Order.{precedes-le}
 use Rattle.prepare.specs.Prepared.{all-rules}
 use Rattle.matching.specs.Pairs.{by-base, Behind}
 use Rattle.matching.proofs.Buffers.{behind-kept}
-use Rattle.fitting.proofs.Knowing.{known-none, known-turned}
-use Rattle.fitting.proofs.Fitting.{pair-of, candidate-behind, fits-left, fits-not}
+use Rattle.fitting.proofs.KnownRules.{known-none, known-turned}
+use Rattle.fitting.proofs.PairFits.{pair-of, candidate-behind, fits-left, fits-not}
 use Rattle.fitting.proofs.fits.Statement.{statement}
 use Rattle.fitting.proofs.fits.Tie as tie
 

@@ -4,7 +4,7 @@ use borrow.Author.Needs.{needs}
 use Rattle.bpa.specs.Method.{expand}
 use Rattle.rows.specs.Region.{row}
 use Rattle.rows.specs.Answers.{meaning}
-use Rattle.form.proofs.Telling.{tells-equal, tells-ends, tells-differ}
+use Rattle.form.proofs.EqualPlans.{tells-equal, tells-ends, tells-differ}
 use borrow.Author.Needs.{needs}
 use Rattle.form.proofs.same_forms.Statement.{statement}
 use Rattle.form.proofs.same_forms.Tie as tie

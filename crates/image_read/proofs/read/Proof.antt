@@ -9,8 +9,8 @@ use lib.Seq.{length-take-le}
 use Rattle.image.specs.Image.{block-places, block, blocks-in, places-from, image-jobs, image-places}
 use Rattle.image.specs.Reading.{Takes, Took, HoldsTable}
 use Rattle.image.proofs.Blocks.{block-part, block-length}
-use Rattle.image.proofs.Accepted.{LaidOut, laid-out}
-use Rattle.image.proofs.Held.{held}
+use Rattle.image.proofs.AcceptedImages.{LaidOut, laid-out}
+use Rattle.image.proofs.HeldTable.{held}
 use native.Mathlib.Omega.{arith}
 use Rattle.image_read.proofs.read.Statement.{statement}
 use Rattle.image_read.proofs.read.Tie as tie

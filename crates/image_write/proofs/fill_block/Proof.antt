@@ -1,5 +1,5 @@
 -- `image_write::fill_block` meets its contract. Assumes nothing.
-use Rattle.image_write.proofs.Filled.{fill}
+use Rattle.image_write.proofs.FilledBlock.{fill}
 use borrow.Author.Needs.{needs}
 use Rattle.image_write.proofs.fill_block.Statement.{statement}
 use Rattle.image_write.proofs.fill_block.Tie as tie

@@ -12,7 +12,7 @@ use Rattle.rules.specs.Places.{rule-count}
 use Rattle.image.specs.Writing.{blocks-for, rules-for, written-block, written-from, written}
 use Rattle.image.specs.Filling.{Fills, filled}
 use Rattle.image.proofs.ListRefusal.{good-list}
-use Rattle.image.proofs.Written.{filled-is, block-size, written-size}
+use Rattle.image.proofs.WrittenImages.{filled-is, block-size, written-size}
 use native.Mathlib.Omega.{arith}
 use Rattle.image_write.proofs.write_blocks.Statement.{statement}
 use Rattle.image_write.proofs.write_blocks.Tie as tie

@@ -5,7 +5,7 @@ use lib.ListN.{getD}
 use borrow.Author.Needs.{needs}
 use borrow.Author.Tests.{lt-ltb, le-ltb}
 use Rattle.judge.specs.Judging.{byte-base}
-use Rattle.judge.proofs.Deciding.{verdict-right, verdict-right-apart, verdict-left, verdict-left-apart}
+use Rattle.judge.proofs.Verdicts.{verdict-right, verdict-right-apart, verdict-left, verdict-left-apart}
 use Rattle.judge.proofs.decide.Statement.{statement}
 use Rattle.judge.proofs.decide.Tie as tie
 

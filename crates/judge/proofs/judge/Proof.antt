@@ -2,7 +2,7 @@
 use mathlib.Core.Path.{sym}
 use native.Mathlib.Omega.{arith}
 use borrow.Author.Needs.{needs}
-use Rattle.judge.proofs.Going.{Asks, plain-equal, plain-ends, plain-jobs, plain-apart, plain-parting}
+use Rattle.judge.proofs.JudgeLoop.{Asks, plain-equal, plain-ends, plain-jobs, plain-apart, plain-parting}
 use Rattle.judge.proofs.judge.Statement.{statement}
 use Rattle.judge.proofs.judge.Tie as tie
 

@@ -4,7 +4,7 @@ use Prim.Native.Nat.{ℕ, _-_, _≤_}
 use native.Mathlib.Omega.{arith}
 use lib.ListN.{getD}
 use borrow.Author.Count.{below-more}
-use Rattle.rows.proofs.Among.{Missing}
+use Rattle.rows.proofs.ListedJobs.{Missing}
 use Rattle.judge.specs.Noting.{there, added}
 use Rattle.judge.proofs.note.Statement.{statement}
 use Rattle.judge.proofs.note.Tie as tie

@@ -1,6 +1,6 @@
 -- `judge::replace_pair` meets its contract. Assumes nothing.
 use borrow.Author.Needs.{needs}
-use Rattle.judge.proofs.Standing.{whole-plan, pair-growable, pair-grown}
+use Rattle.judge.proofs.RowsStand.{whole-plan, pair-growable, pair-grown}
 use Rattle.judge.proofs.replace_pair.Statement.{statement}
 use Rattle.judge.proofs.replace_pair.Tie as tie
 

@@ -4,10 +4,10 @@ use Prim.Native.Nat.{_-_, _≤_}
 use native.Mathlib.Omega.{arith}
 use Rattle.bpa.specs.Method.{candidate}
 use Rattle.rules.specs.Places.{table-of}
-use Rattle.rows.proofs.Among.{Among}
-use Rattle.judge.proofs.Standing.{singles-are}
-use Rattle.judge.proofs.Replaced.{Replaced, replaced-none, replaced-more, noted-among, visits, replaced-still}
-use Rattle.judge.proofs.Going.{Asks, Going, At, going-first, going-turn, going-spent, at-equal, at-ends, at-jobs, at-apart, at-replace}
+use Rattle.rows.proofs.ListedJobs.{Among}
+use Rattle.judge.proofs.RowsStand.{singles-are}
+use Rattle.judge.proofs.ReplacedJobs.{Replaced, replaced-none, replaced-more, noted-among, visits, replaced-still}
+use Rattle.judge.proofs.JudgeLoop.{Asks, Going, At, going-first, going-turn, going-spent, at-equal, at-ends, at-jobs, at-apart, at-replace}
 use Rattle.judge.proofs.turns.Statement.{statement}
 use Rattle.judge.proofs.turns.Tie as tie
 

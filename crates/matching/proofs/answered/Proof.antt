@@ -16,7 +16,7 @@ use Rattle.prepare.proofs.Chains.{chain-next, chain-gap, chain-rises}
 use Rattle.matching.specs.Pairs.{near, far, answers, Behind}
 use Rattle.matching.specs.Remembered.{memory-in, Remembered, Asking, Answering}
 use Rattle.matching.proofs.Buffers.{behind-kept, kept-then, kept-same}
-use Rattle.matching.proofs.Searching.{Search, search-found, search-ends, none-before-next}
+use Rattle.matching.proofs.RuleSearch.{Search, search-found, search-ends, none-before-next}
 use Rattle.matching.proofs.Memory.{byte-read, byte-written, rows-lent, remember, search-remembered, stands-on, none-yet}
 use Rattle.matching.proofs.answered.Statement.{statement}
 use Rattle.matching.proofs.answered.Tie as tie

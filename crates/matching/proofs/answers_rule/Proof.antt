@@ -15,7 +15,7 @@ use Rattle.judge.specs.Judging.{byte-base}
 use Rattle.prepare.specs.Prepared.{move-of}
 use Rattle.matching.specs.Pairs.{answers, Behind}
 use Rattle.matching.proofs.Buffers.{kept-same, has-room, put-keeps}
-use Rattle.matching.proofs.Answering.{unequal-moves, equal-moves, unequal-norms, left-over, left-norm, right-over, right-below, right-norm}
+use Rattle.matching.proofs.RuleAnswers.{unequal-moves, equal-moves, unequal-norms, left-over, left-norm, right-over, right-below, right-norm}
 use Rattle.matching.proofs.answers_rule.Statement.{statement}
 use Rattle.matching.proofs.answers_rule.Tie as tie
 

@@ -4,7 +4,7 @@ use lib.ListN.{drop}
 use borrow.Author.Needs.{needs}
 use Rattle.rules.specs.Places.{table-of}
 use Rattle.judge.specs.Judging.{byte-base}
-use Rattle.matching.proofs.Searching.{way-forth, way-back}
+use Rattle.matching.proofs.RuleSearch.{way-forth, way-back}
 use Rattle.matching.proofs.answers_way.Statement.{statement}
 use Rattle.matching.proofs.answers_way.Tie as tie
 

@@ -6,7 +6,7 @@ use native.Mathlib.Omega.{arith}
 use borrow.Author.Needs.{needs}
 use lib.ListN.{replicate}
 use Rattle.rules.specs.Places.{table-of}
-use Rattle.norm.proofs.Settled.{Holds, none-known, one-more, settled, ended}
+use Rattle.norm.proofs.NormsByRounds.{Holds, none-known, one-more, settled, ended}
 use Rattle.norm.proofs.norms.Statement.{statement}
 use Rattle.norm.proofs.norms.Tie as tie
 

@@ -11,7 +11,7 @@ use Rattle.rules.specs.Places.{rule-count}
 use Rattle.rules.proofs.ListLaws.{good-has-place, good-rule}
 use Rattle.bpa.proofs.Basics.JobsBelow.{below-more}
 use Rattle.norm.specs.NormArrays.{norm-by}
-use Rattle.norm.proofs.Pass.{Passed, passed-none, passed-more, passed-all}
+use Rattle.norm.proofs.RoundPass.{Passed, passed-none, passed-more, passed-all}
 use Rattle.norm.proofs.round.Statement.{statement}
 use Rattle.norm.proofs.round.Tie as tie
 

@@ -8,7 +8,7 @@ use lib.ListN.{length, getD, drop, length-set}
 use borrow.Author.Needs.{needs}
 use Rattle.rules.proofs.ListLaws.{good-rule}
 use Rattle.rules.specs.Places.{rule-count, rule-at}
-use Rattle.prepare.proofs.Fill.{Filled, fill-end, fill-hit, own-job, job-own, Linked, link}
+use Rattle.prepare.proofs.FirstRuleArray.{Filled, fill-end, fill-hit, own-job, job-own, Linked, link}
 use Rattle.prepare.specs.Prepared.{all-rules, seek, of-job}
 use Rattle.prepare.proofs.chain_rules.Statement.{statement}
 use Rattle.prepare.proofs.chain_rules.Tie as tie

@@ -8,8 +8,8 @@ use borrow.Author.Needs.{needs}
 use Rattle.bpa.specs.Norms.{sum-of}
 use Rattle.rules.proofs.ListLaws.{good-rule}
 use Rattle.rules.specs.Places.{rule-count, rule-at}
-use Rattle.prepare.proofs.Fill.{Filled, fill-end, fill-hit, fill-miss}
-use Rattle.prepare.proofs.Lowering.{own-lowers, does-lower, lowers-not, lowered}
+use Rattle.prepare.proofs.FirstRuleArray.{Filled, fill-end, fill-hit, fill-miss}
+use Rattle.prepare.proofs.LoweringRules.{own-lowers, does-lower, lowers-not, lowered}
 use Rattle.prepare.specs.Prepared.{lowers}
 use Rattle.prepare.proofs.lowering_rules.Statement.{statement}
 use Rattle.prepare.proofs.lowering_rules.Tie as tie

@@ -11,7 +11,7 @@ use Rattle.bpa.proofs.Basics.JobsBelow.{below-at}
 use Rattle.rules.specs.Places.{rule-count, rule-at}
 use Rattle.rules.specs.Lists.{GoodList}
 use Rattle.rules.proofs.ListLaws.{good-rule, good-has-place}
-use Rattle.prepare.proofs.Fill.{stored-more}
+use Rattle.prepare.proofs.FirstRuleArray.{stored-more}
 use Rattle.prepare.specs.Prepared.{RowNorm}
 use Rattle.prepare.proofs.row_norms.Statement.{statement}
 use Rattle.prepare.proofs.row_norms.Tie as tie

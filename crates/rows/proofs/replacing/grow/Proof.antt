@@ -6,7 +6,7 @@ use borrow.Author.Needs.{needs}
 use Rattle.bpa.specs.Method.{expand}
 use Rattle.rows.specs.Region.{row}
 use Rattle.rows.specs.Replacing.{Begins}
-use Rattle.rows.proofs.Growing.{behind-job, grow-asks, grow-leaves}
+use Rattle.rows.proofs.PairReplacement.{behind-job, grow-asks, grow-leaves}
 use Rattle.rows.proofs.WrittenPlans.{within-readable}
 use Rattle.rows.proofs.replacing.grow.Statement.{statement}
 use Rattle.rows.proofs.replacing.grow.Tie as tie

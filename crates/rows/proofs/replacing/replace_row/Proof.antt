@@ -4,7 +4,7 @@ use mathlib.Core.List.{List}
 use Prim.Native.Nat.{ℕ, _-_}
 use native.Mathlib.Omega.{arith}
 use lib.ListN.{length}
-use Rattle.rows.proofs.Rewriting.{Rewriting, end-of, room, rewrite-none, reach, more-left, room-here, turn-here, room-other, turn-other, rewrite-all}
+use Rattle.rows.proofs.RowReplacement.{Rewriting, end-of, room, rewrite-none, reach, more-left, room-here, turn-here, room-other, turn-other, rewrite-all}
 use Rattle.rows.proofs.replacing.replace_row.Statement.{statement}
 use Rattle.rows.proofs.replacing.replace_row.Tie as tie
 

@@ -14,7 +14,7 @@ use Rattle.bpa.specs.Plans.{Rule}
 use Rattle.bpa.proofs.Basics.Cases.{by-test}
 use Rattle.rules.specs.Places.{rule-at, rule-count}
 use Rattle.prepare.specs.Prepared.{all-rules, seek, of-job}
-use Rattle.prepare.proofs.Seek.{seek-step, seek-end}
+use Rattle.prepare.proofs.FirstRule.{seek-step, seek-end}
 
 -- an array filled from the front: what holds of each value stored holds of one more
 pub stored-more : (P : ℕ → ℕ → Type 0) (a : List ℕ) (i v : ℕ) → i < length a → ((k : ℕ) → k < i → P k (getD a k 0)) → P i v →

@@ -17,7 +17,7 @@ use Rattle.prepare.specs.Prepared.{all-rules, move-of}
 use Rattle.judge.specs.Judging.{byte-base}
 use Rattle.matching.specs.Pairs.{by-base, near, far, Faces}
 use Rattle.matching.specs.Remembered.{Answering}
-use Rattle.matching.proofs.Searching.{answers-flip, search-found}
+use Rattle.matching.proofs.RuleSearch.{answers-flip, search-found}
 use Rattle.fitting.specs.Fits.{Known}
 
 -- the two jobs of a pair differ

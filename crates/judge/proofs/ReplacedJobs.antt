@@ -12,7 +12,7 @@ use Rattle.bpa.specs.Method.{expand, replace, grow, itself}
 use Rattle.rows.specs.Region.{row}
 use Rattle.rows.specs.Replacing.{occurrences, Visits}
 use Rattle.rows.proofs.Occurrences.{occurrences-other, occurrences-none, replace-other}
-use Rattle.rows.proofs.Among.{Among, Missing}
+use Rattle.rows.proofs.ListedJobs.{Among, Missing}
 use Rattle.judge.specs.Noting.{Noted, there, added}
 
 -- the first `count` jobs of the list, each once; `left` more have room

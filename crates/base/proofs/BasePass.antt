@@ -16,9 +16,9 @@ use Rattle.rules.specs.Lists.{GoodList}
 use Rattle.judge.specs.Judging.{byte-base}
 use Rattle.base.specs.Held.{Lists, ones, Held, Passed}
 use Rattle.matching.specs.Remembered.{memory-in, Remembered}
-use Rattle.matching.proofs.Shrinking.{remember-smaller}
+use Rattle.matching.proofs.SmallerBase.{remember-smaller}
 use Rattle.base.proofs.Bytes.{place-greater, place-lesser, ones-fewer, held-byte, byte-held}
-use Rattle.base.proofs.Dropping.{drop-held, cleared}
+use Rattle.base.proofs.DroppedPairs.{drop-held, cleared}
 
 -- a pair fits if it is held
 abbrev pub Fit : (n : ℕ) (rs ns base : List ℕ) (y x : ℕ) → Type 0

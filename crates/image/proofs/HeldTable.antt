@@ -13,7 +13,7 @@ use Rattle.image.specs.Image.{block, blocks-in, rules-in-block, block-pl
 use Rattle.image.specs.Writing.{list-refusal}
 use Rattle.bpa.proofs.Basics.Cases.{and-left, and-both}
 use Rattle.image.proofs.Blocks.{block-length}
-use Rattle.image.proofs.Accepted.{LaidOut, laid-out}
+use Rattle.image.proofs.AcceptedImages.{LaidOut, laid-out}
 use Rattle.image.proofs.ListRefusal.{list-passes}
 use Rattle.image.proofs.PlaceRows.{places-local, places-split}
 

@@ -14,8 +14,8 @@ use Rattle.bpa.specs.Method.{lowering}
 use Rattle.bpa.proofs.Basics.Cases.{and-left, and-right, and-both, is-false}
 use Rattle.rules.specs.Places.{rule-at, rule-count, table-of}
 use Rattle.prepare.specs.Prepared.{all-rules, seek, lowers, Normed, Lowered}
-use Rattle.prepare.proofs.Seek.{all-length, all-at, seek-found, lowering-at}
-use Rattle.prepare.proofs.Fill.{Filled}
+use Rattle.prepare.proofs.FirstRule.{all-length, all-at, seek-found, lowering-at}
+use Rattle.prepare.proofs.FirstRuleArray.{Filled}
 
 module _ (ns : List ℕ) (k : ℕ) (r : Rule) where
   pub own-lowers : lowers ns k r ≡ true → r .job ≡ k

@@ -14,7 +14,7 @@ use Rattle.bpa.proofs.Judge.JudgeMonotone.{judged-symmetric}
 use Rattle.rules.specs.Places.{rule-at, rule-count}
 use Rattle.prepare.specs.Prepared.{all-rules, of-job, move-of, OnChain}
 use Rattle.prepare.proofs.Chains.{moves-at, moves-step, moves-other, moves-end}
-use Rattle.prepare.proofs.Fill.{own-job, job-own}
+use Rattle.prepare.proofs.FirstRuleArray.{own-job, job-own}
 use Rattle.matching.specs.Pairs.{answers, near, far, Kept}
 
 module _ (t : Table) (ns : List ℕ) (b : Base) where

@@ -23,8 +23,8 @@ use Rattle.judge.specs.declared.Verdict.{Verdict}
 use Rattle.judge.specs.declared.Verdict.the-variants.{Apart, Replace}
 use Rattle.judge.specs.Judging.{byte-base, Stands, StandsAs}
 use Rattle.judge.specs.Verdicts.{verdict-on, Parting}
-use Rattle.judge.proofs.Deciding.{go-on, verdict-pair, judge-replace, judge-apart}
-use Rattle.judge.proofs.Standing.{stands-over, ones, singles-are, singles-stand}
+use Rattle.judge.proofs.Verdicts.{go-on, verdict-pair, judge-replace, judge-apart}
+use Rattle.judge.proofs.RowsStand.{stands-over, ones, singles-are, singles-stand}
 
 -- the rows, and the fuel left: the judge goes on from here
 pub record At (n : ℕ) (rs ns bs p q lens region : List ℕ) (left : ℕ) : Type 0 where
