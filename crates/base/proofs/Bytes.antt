@@ -1,5 +1,5 @@
 -- The bytes of a base and the pairs that they stand for. Assumes nothing.
-use mathlib.Core.Path.{_≡_, refl, sym, ap, subst}
+use mathlib.Core.Path.{_≡_, sym, ap, subst}
 use mathlib.Core.Bool.{true}
 use mathlib.Core.List.{List, [], _∷_}
 use Prim.Native.Nat.{ℕ, zero, suc, _+_, _*_, _/_, _%_, _<_}
@@ -47,10 +47,6 @@ pub place-pair : (n : ℕ) (ns : List ℕ) (y x : ℕ) → x < 24 → PairPlace 
 place-pair n ns y x l p = record { greater = omega (arith, p .greater); lesser = omega (arith, p .lesser); order = place-order n ns y x l p }
 
 -- A BYTE CLEARED
-pub above-zero : (v : ℕ) → (v ≡ 0 → ⊥) → 0 < v
-above-zero zero d = absurd (d refl)
-above-zero (suc v) d = omega arith
-
 pub ones-fewer : (b : List ℕ) (i : ℕ) → i < length b → 0 < getD b i 0 → suc (ones (set b i 0)) ≡ ones b
 unfolding ones
 ones-fewer [] i h e = absurd (omega arith)

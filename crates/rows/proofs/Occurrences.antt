@@ -1,5 +1,5 @@
 -- How often a job stands in a row, and what its replacement makes of the row. Assumes nothing.
-use mathlib.Core.Path.{_≡_, refl, sym, ap, _∙_}
+use mathlib.Core.Path.{_≡_, refl, ap}
 use mathlib.Core.List.{List, [], _∷_, _++_, append-nil}
 use Prim.Native.Nat.{ℕ, suc, _+_, _*_, _-_, _≤_, _<_}
 use native.Mathlib.Nat.{suc-mul, zero-mul}
@@ -25,17 +25,6 @@ module _ (h : ℕ) where
   pub occurrences-none : occurrences h [] ≡ 0
   unfolding occurrences
   occurrences-none = refl
-
-  -- a row of one job
-  pub one-here : (r : List ℕ) → length r ≡ 1 → getD r 0 0 ≡ h → 1 ≡ occurrences h r
-  one-here [] l e = absurd (omega arith)
-  one-here (x ∷ []) l e = sym (occurrences-here x [] e ∙ ap suc occurrences-none)
-  one-here (x ∷ y ∷ r) l e = absurd (omega arith)
-
-  pub one-other : (r : List ℕ) → length r ≡ 1 → (getD r 0 0 ≡ h → ⊥) → 0 ≡ occurrences h r
-  one-other [] l d = absurd (omega arith)
-  one-other (x ∷ []) l d = sym (occurrences-other x [] d ∙ occurrences-none)
-  one-other (x ∷ y ∷ r) l d = absurd (omega arith)
 
   pub occurrences-append : (p q : List ℕ) → occurrences h (p ++ q) ≡ occurrences h p + occurrences h q
   unfolding occurrences

@@ -2,10 +2,11 @@
 use mathlib.Core.Path.{_≡_, refl, sym, _∙_}
 use mathlib.Core.List.{List}
 use Prim.Native.Nat.{ℕ, _-_, _+_, _*_, _/_, _%_, _<_}
+use native.Mathlib.Nat.{pos-of-ne-zero}
 use native.Mathlib.Omega.{arith}
 use lib.ListN.{getD}
 use borrow.Author.Needs.{needs}
-use Rattle.base.proofs.Bytes.{above-zero, place-pair}
+use Rattle.base.proofs.Bytes.{place-pair}
 use Rattle.base.proofs.BasePass.{Passing, pass-none, pass-on, pass-drop, pass-end}
 use Rattle.base.proofs.pass.Statement.{statement}
 use Rattle.base.proofs.pass.Tie as tie
@@ -86,7 +87,7 @@ fits-requires c κs =
     let x : ℕ = at .loop .k % 24 in (
       start at .pre .0,
       (
-        place-pair (jobs at) (ns at) y x (omega arith) (held .held .within (24 * y + x) (above-zero _ (c .before .before .if1 .left))),
+        place-pair (jobs at) (ns at) y x (omega arith) (held .held .within (24 * y + x) (pos-of-ne-zero (c .before .before .if1 .left))),
         (held .remembered, held .size ∙ start at .pre .1 .1 .1 .1),
       ),
     )
@@ -115,7 +116,7 @@ loop-again-3 c =
     let d = c .before .before .before .fits2 in
     pass-drop (jobs at) (rs at) (ns at) (ord at) (start at .args .base .now) (start at .args .area .now) (at .loop .base) (at .loop .area) (at .loop .dropped) (at .loop .k)
     (at .loop .inv) (d .last .1 .1 .1 .1 .1 .1 .1 .1 .1 .1 .0) (d .ensures .remembered) (d .kept .1 .1 .1 .1 .1 .1 .1 .1 .1 .1 .0) (start at .pre .0 .ready .list) (start at .pre .0 .ready .good) (job .result)
-    (in-base at (c .before .before .before .before .before .before .before .before .before .before .loop-test .taken) (job .result) (job .ensures .is)) (above-zero _ (c .before .before .before .before .before .before .if1 .left)) (sym (d .ensures .is) ∙ c .if2 .left)
+    (in-base at (c .before .before .before .before .before .before .before .before .before .before .loop-test .taken) (job .result) (job .ensures .is)) (pos-of-ne-zero (c .before .before .before .before .before .before .if1 .left)) (sym (d .ensures .is) ∙ c .if2 .left)
 
 same-length : tie.Need-same-length Inv-loop μ-loop
 same-length c = c .before .loop .inv .size
