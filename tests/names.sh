@@ -46,6 +46,7 @@ c_calls() {
             if ($i ~ /^const uint8_t \*/ && $(i + 1) == "size_t " area "_len") { parameter = area ": &[u8]"; i++ }
             else if ($i ~ /^uint8_t \*/ && $(i + 1) == "size_t " area "_len") { parameter = area ": &mut [u8]"; i++ }
             else if ($i ~ /^uint32_t /) parameter = substr($i, 10) ": u32"
+            else if ($i ~ /^uint64_t /) parameter = substr($i, 10) ": u64"
             else parameter = $i
             line = line (line ~ /\($/ ? "" : ", ") parameter
         }

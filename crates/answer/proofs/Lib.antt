@@ -1,2 +1,4 @@
--- Laws of answers.
-pub mod Writing
+-- Laws of refusals and answers.
+pub mod RefusalChains
+pub mod Answers
+pub mod Results

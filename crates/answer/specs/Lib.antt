@@ -1,2 +1,3 @@
--- What calls give back and leave behind.
+-- Refusals in checking order, and what calls give back and leave behind.
+pub mod Refusals
 pub mod Answer

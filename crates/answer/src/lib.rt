@@ -1,32 +1,42 @@
 // What every call gives back: a refusal as its number made negative, or a result.
 ghost use mathlib.Core.Path.{_≡_};
-ghost use Prim.Native.Nat.{ℕ, _≤_, _<_};
+ghost use Prim.Native.Nat.{_<_};
 ghost use lib.IntN.{pos};
+ghost use Rattle.answer.specs.Refusals as refusals;
 ghost use Rattle.answer.specs.Answer.{signed};
+ghost use Rattle.answer.specs.Answer as answers;
 
-// A refusal, 1 to 10, by literals: so the number given back is plain to see.
-pub fn refused(refusal: u32) -> i32
-    requires { ⌜ (1 ≤ refusal) × (refusal ≤ 10) ⌝ }
-    ensures { λ r. ⌜ ((v : ℕ) → r ≡ signed refusal v) ⌝ }
+// The first of two refusals in checking order; 0 is none.
+pub fn or_else(first: u8, then: u8) -> u8
+    ensures { λ r. ⌜ r ≡ refusals.or-else first then ⌝ }
 {
-    match refusal {
-        1 => -1,
-        2 => -2,
-        3 => -3,
-        4 => -4,
-        5 => -5,
-        6 => -6,
-        7 => -7,
-        8 => -8,
-        9 => -9,
-        _ => -10,
+    if first == 0 {
+        return then;
     }
+    first
 }
 
-// A result: a norm, a count of bytes, 1 for same or 0 for apart.
+// A refusal, made negative.
+pub fn refused(refusal: u8) -> i32
+    ensures { λ r. ⌜ r ≡ signed refusal 0 ⌝ }
+{
+    -(refusal as i32)
+}
+
+// A result: a norm, a count of bytes, an answer that is a number.
 pub fn result(value: usize) -> i32
     requires { ⌜ value < 2147483648 ⌝ }
     ensures { λ r. ⌜ r ≡ pos value ⌝ }
 {
     value as i32
+}
+
+// Yes or no as a result.
+pub fn one_if(holds: bool) -> i32
+    ensures { λ r. ⌜ r ≡ pos (answers.one-if holds) ⌝ }
+{
+    if holds {
+        return 1;
+    }
+    0
 }

@@ -32,7 +32,7 @@ unfoldable pub Any-bisimulation : Table → (List ℕ → List ℕ → Type 0) �
 Any-bisimulation t R =
     (p q : List ℕ) → over t p ≡ true → over t q ≡ true → R p q → Simulates t R p q × Simulates t (λ q′ p′. R p′ q′) q p
 
--- the approximants of 000: plans whose steps are matched for so many rounds
+-- the approximants, as 003 calls them: plans whose steps are matched for so many rounds
 abbrev pub Approx : Table → (rounds : ℕ) → (p q : List ℕ) → Type 0
 Approx t zero p q = Unit {0}
 Approx t (suc n) p q = Simulates t (Approx t n) p q × Simulates t (Approx t n) q p

@@ -1,11 +1,11 @@
 -- From good norms to the prime rows, and from these to the answers. Assumes nothing.
-use mathlib.Core.Path.{_≡_, refl, sym, ap, _∙_, subst}
+use mathlib.Core.Path.{_≡_, sym, ap, _∙_, subst}
 use mathlib.Core.Bool.{Bool, true}
-use mathlib.Core.List.{List, _++_}
-use Prim.Native.Nat.{ℕ, _-_, _≤_, _<_}
+use mathlib.Core.List.{List}
+use Prim.Native.Nat.{ℕ, _+_, _-_, _≤_, _<_, min}
 use native.Mathlib.Omega.{arith}
 use lib.IntN.{ℤ, pos, negsuc}
-use lib.ListN.{length, take, drop}
+use lib.ListN.{length, take}
 use lib.Seq.{take-at}
 use borrow.Rule.Slice.PartMut.{putMid, postOf}
 use Rattle.bpa.specs.Plans.{all-below, over}
@@ -14,7 +14,7 @@ use Rattle.bpa.specs.Method.{expand, prime-rows, final-base, same, prime-form}
 use Rattle.bpa.proofs.Base.ExactBase.{Exact, exact-base}
 use Rattle.rules.specs.Places.{table-of}
 use Rattle.norm.specs.NormArrays.{GoodNorms}
-use Rattle.refusal.proofs.Accepted.{array-good}
+use Rattle.refusal.proofs.NormArray.{array-good}
 use Rattle.prepare.specs.Prepared.{Normed, Lowered}
 use Rattle.candidate.specs.Ready.{Ready}
 use Rattle.rows.specs.Region.{row, Within, Readable}
@@ -26,7 +26,8 @@ use Rattle.form.specs.Written.{Tells}
 use Rattle.form.proofs.Lengths.{form-long}
 use Rattle.prime_table.proofs.Forms.{exact-agrees, form-fits, form-is, answer-is}
 use Rattle.answer.specs.Answer.{Writes}
-use Rattle.answer.proofs.Writing.{writes-short, writes-bytes}
+use Rattle.answer.proofs.Answers.{too-short, written}
+use Rattle.area.specs.Areas.{put, IsPut}
 use Rattle.engine.specs.Engine.{PrimeRows}
 
 module _ (n : ℕ) (rs ns : List ℕ) (g : GoodNorms n rs ns) where
@@ -90,23 +91,26 @@ module _ (n : ℕ) (rs ns lens region : List ℕ) (r : PrimeRows (table-of n rs)
     long : length (expand (row lens region) p) ≡ sum-of lens p
     long = form-long lens region p readable
 
-    pub need-small : sum-of ns p ≤ 4096 → sum-of lens p ≤ 4096
+    pub few : sum-of ns p ≤ 4096 → length (expand (row lens region) p) ≤ 4096
     unfolding table-of over
-    need-small h = omega (arith, r .short p o)
+    few small = omega (arith, long, r .short p o)
 
-    module _ (need : ℕ) (is : need ≡ sum-of lens p) (out : List ℕ) where
+    module _ (small : sum-of ns p ≤ 4096) (need : ℕ) (is : need ≡ min 4097 (sum-of lens p)) (out : List ℕ) where
+      exact : need ≡ sum-of lens p
+      unfolding table-of over
+      exact = omega (arith, r .short p o)
+
       size : length (prime-form (table-of n rs) p) ≡ need
-      size = ap length (sym form) ∙ long ∙ sym is
+      size = ap length (sym form) ∙ long ∙ sym exact
 
       pub form-refused : length out < need → Writes 0 (prime-form (table-of n rs) p) out (negsuc 9) out
-      form-refused h = writes-short 0 (prime-form (table-of n rs) p) out refl (omega (arith, size))
+      form-refused h = too-short (prime-form (table-of n rs) p) out (omega (arith, size))
 
-      pub form-room : need ≤ length out → length (expand (row lens region) p) ≤ length out
-      form-room h = omega (arith, long)
+      pub form-room : need ≤ length out → 0 + length (expand (row lens region) p) ≤ length out
+      form-room h = omega (arith, long, exact)
 
-      pub form-written : (a : ℤ) (out′ : List ℕ) → need ≤ length out → a ≡ pos need →
-          out′ ≡ expand (row lens region) p ++ drop (length (expand (row lens region) p)) out →
+      pub form-written : {a : ℤ} {m : ℕ} {out′ : List ℕ} → need ≤ length out → IsPut 0 (expand (row lens region) p) out m out′ → a ≡ pos m →
           Writes 0 (prime-form (table-of n rs) p) out a out′
-      form-written a out′ h e d =
-          writes-bytes 0 (prime-form (table-of n rs) p) out a out′ refl (omega (arith, size)) (e ∙ ap pos (sym size))
-          (d ∙ ap (λ (f : List ℕ). f ++ drop (length f) out) form)
+      form-written h w e =
+          written (prime-form (table-of n rs) p) out (omega (arith, size)) (e ∙ ap pos (omega (arith, w .next, long, size, exact)))
+          (w .output ∙ ap (λ (f : List ℕ). put 0 f out) form)

@@ -2,13 +2,13 @@
 // The area that is worked in has two parts. Bytes 0 to 12287 are the rows, 24 of 512 bytes. Bytes 12288 to 18335 are the memory of
 // failed answers, 252 bytes for each of 24 jobs, which the base is worked out with.
 use base::final_base;
-use form::form_length;
 use form::same_forms;
-use form::write_form;
+use norm::capped_sum;
 use order::order;
 use prepare::lowering_rules;
 use prepare::row_norms;
 use prime_table::prime_table;
+use rows::expanding::write_expansion;
 ghost use mathlib.Core.Path.{_≡_};
 ghost use mathlib.Core.Bool.{true};
 ghost use Prim.Native.Nat.{_≤_};
@@ -87,10 +87,9 @@ pub fn form(
 {
     let mut lens = [0u16; 24];
     prime_rows(jobs, rules, norms, &mut lens, area);
-    let need = form_length(&lens, plan);
+    let need = capped_sum(&lens, plan) as usize;
     if out.len() < need {
         return -10;
     }
-    write_form(&area[0..12288], &lens, plan, out);
-    answer::result(need)
+    answer::result(write_expansion(&area[0..12288], &lens, plan, out, 0))
 }

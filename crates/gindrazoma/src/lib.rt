@@ -1,7 +1,8 @@
-// The seven calls of the service, for C: numbers pass as themselves, and an area as a pointer and then a length. A call gives
-// back a result, or a refusal's number made negative; no call keeps anything for the next.
-ghost use mathlib.Core.Path.{_≡_};
-ghost use Rattle.entries.specs.Entries.{Read, Written, norm-answer, Ran, Moved, Compared, Formed};
+// The calls of the service, for C: numbers pass as themselves, and an area as a pointer and then a length. A call gives back a
+// result, or a refusal's number made negative; no call keeps anything for the next.
+ghost use Rattle.images.specs.ImageCalls.{Read, Written};
+ghost use Rattle.plans.specs.PlanCalls.{Normed, Moved, Ran};
+ghost use Rattle.sameness.specs.SamenessCalls.{Compared, Formed};
 
 // The table of an image: the job count in one byte, then the rules, 8 bytes each.
 #[no_mangle]
@@ -22,7 +23,7 @@ pub extern "C" fn gindrazoma_write_image(jobs: u32, rules: &[u8], out: &mut [u8]
 // The norm of a plan.
 #[no_mangle]
 pub extern "C" fn gindrazoma_plan_norm(image: &[u8], plan: &[u8]) -> i32
-    ensures { λ r. ⌜ r ≡ norm-answer (now (image .entry)) (now (plan .entry)) ⌝ }
+    ensures { λ r. ⌜ Normed (now (image .entry)) (now (plan .entry)) r ⌝ }
 {
     plans::plan_norm(image, plan)
 }

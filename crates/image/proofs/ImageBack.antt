@@ -8,7 +8,7 @@ use native.Mathlib.Omega.{arith}
 use lib.ListN.{getD, take, drop, drop-of-length-le}
 use lib.Seq.{take-at, getD-take, getD-drop}
 use Rattle.bpa.specs.Plans.{all-below}
-use Rattle.rules.specs.Places.{rule-count, table-of, table-refusal}
+use Rattle.rules.specs.Places.{rule-count, table-of}
 use Rattle.bpa.proofs.Basics.JobsBelow.{below-at}
 use Rattle.image.specs.Image.{block, blocks-in, rules-in-block, block-places, places-from, image-jobs, image-places, table-in, layout-refusal, image-refusal}
 use Rattle.image.specs.Writing.{blocks-for, rules-for, written-block, written-from, written, list-refusal, write-refusal}
@@ -17,7 +17,8 @@ use Rattle.image.proofs.Blocks.{block-length, block-cons}
 use Rattle.image.proofs.AcceptedImages.{LaidOut, laid-out}
 use Rattle.image.proofs.HeldTable.{rules-from, places-length, from-later, count-is, count-bounds, image-length, image-listed}
 use Rattle.image.proofs.ImageList.{count-later, first-of}
-use Rattle.image.proofs.ListRefusal.{neither, both}
+use Rattle.answer.proofs.RefusalChains.{neither, both-pass}
+use Rattle.refusal.specs.Refusals.{table-refusal}
 use Rattle.image.proofs.BlockParts.{block-filled}
 use Rattle.image.proofs.WrittenImages.{part, filled-is}
 
@@ -83,7 +84,7 @@ module _ (bs : List ℕ) (h : image-refusal bs ≡ 0) where
   pub image-writes : write-refusal (image-jobs bs) (image-places bs) ≡ 0
   unfolding write-refusal image-refusal table-in
   image-writes =
-      both (list-refusal (image-jobs bs) (image-places bs)) (table-refusal (table-of (image-jobs bs) (image-places bs)))
+      both-pass (list-refusal (image-jobs bs) (image-places bs)) (table-refusal (table-of (image-jobs bs) (image-places bs)))
       (image-listed bs laid) (neither (layout-refusal bs) (table-refusal (table-in bs)) h .1)
 
   -- THE IMAGE written from it is the same

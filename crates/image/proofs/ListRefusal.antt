@@ -1,28 +1,17 @@
--- Refusals in checking order, and the list of rules that none of 2, 4 and 5 meets. Assumes nothing.
-use mathlib.Core.Path.{_≡_, refl, sym, ap, _∙_}
+-- The list of rules that none of refusals 2, 4 and 5 meets. Assumes nothing.
+use mathlib.Core.Path.{_≡_, refl}
 use mathlib.Core.Bool.{Bool, _&&_, not, cond}
 use mathlib.Core.List.{List}
-use Prim.Native.Nat.{ℕ, zero, suc, _*_, _%_}
+use Prim.Native.Nat.{ℕ, _*_, _%_}
 use native.Mathlib.Omega.{arith}
-use lib.Dec.{leb, eqb, eqb·suc-zero}
+use lib.Dec.{leb, eqb}
 use lib.ListN.{length}
 use borrow.Author.Tests.{leb-true, eqb-true, le-leb, eq-eqb}
-use Rattle.rules.specs.Places.{places-good, rule-count, or-else}
+use Rattle.rules.specs.Places.{places-good, rule-count}
 use Rattle.rules.specs.Lists.{GoodList}
 use Rattle.image.specs.Writing.{list-refusal}
 use Rattle.image.proofs.Refusals.{passed, pass}
 use Rattle.bpa.proofs.Basics.Cases.{and-left, and-right, and-both}
-
--- neither the first check refuses nor the second
-pub neither : (a b : ℕ) → or-else a b ≡ 0 → (a ≡ 0) × (b ≡ 0)
-unfolding or-else
-neither zero b h = (refl, h)
-neither (suc a) b h = let e = sym (ap (λ (t : Bool). cond t b (suc a)) (eqb·suc-zero a)) ∙ h in absurd (omega arith)
-
-pub both : (a b : ℕ) → a ≡ 0 → b ≡ 0 → or-else a b ≡ 0
-unfolding or-else
-both zero b p q = q
-both (suc a) b p q = absurd (omega arith)
 
 module _ (n : ℕ) (rs : List ℕ) where
   abbrev even : Bool

@@ -8,14 +8,16 @@ use native.Mathlib.Omega.{arith}
 use lib.ListN.{getD, take, drop, length-drop, drop-of-length-le, take-append-drop}
 use lib.Seq.{take-all, getD-take, drop-drop}
 use Rattle.area.specs.Numbers.{number-at}
-use Rattle.rules.specs.Places.{rule-count, table-of, table-refusal}
+use Rattle.rules.specs.Places.{rule-count, table-of}
 use Rattle.rules.specs.Lists.{GoodList}
 use Rattle.image.specs.Image.{checksum, block, blocks-in, block-places, places-from, image-jobs, image-places, table-in, layout-refusal, image-refusal, places-of-block}
 use Rattle.image.specs.Writing.{blocks-for, rules-for, written, list-refusal, write-refusal}
 use Rattle.image.specs.Filling.{filled}
 use Rattle.image.proofs.Blocks.{Head, blocks-are}
 use Rattle.image.proofs.AcceptedImages.{LaidOut, accepted}
-use Rattle.image.proofs.ListRefusal.{neither, both, good-list}
+use Rattle.answer.proofs.RefusalChains.{neither, both-pass}
+use Rattle.refusal.specs.Refusals.{table-refusal}
+use Rattle.image.proofs.ListRefusal.{good-list}
 use Rattle.image.proofs.BlockChecks.{filled-jobs, filled-rules, filled-sum, filled-number, filled-blocks, filled-places, filled-good}
 use Rattle.image.proofs.WrittenImages.{part, part-length, part-few, written-size}
 use Rattle.image.proofs.WrittenBlocks.{blocks-bounds, rules-bounds, part-good, block-written}
@@ -133,6 +135,6 @@ module _ (n : ℕ) (rs : List ℕ) (h : write-refusal n rs ≡ 0) where
   pub table-back : image-refusal (written n rs) ≡ 0
   unfolding image-refusal write-refusal table-in
   table-back =
-      both (layout-refusal (written n rs)) (table-refusal (table-in (written n rs)))
+      both-pass (layout-refusal (written n rs)) (table-refusal (table-in (written n rs)))
       (accepted (written n rs) (written-laid-out n rs good))
       ((λ i. table-refusal (table-of (table-jobs i) (table-places i))) ∙ neither (list-refusal n rs) (table-refusal (table-of n rs)) h .1)

@@ -6,7 +6,9 @@ use lib.Dec.{leb, eqb}
 use lib.ListN.{length, getD, take, drop}
 use Rattle.area.specs.Numbers.{number-at}
 use Rattle.bpa.specs.Plans.{Table}
-use Rattle.rules.specs.Places.{all-zero, places-good, table-of, table-refusal, or-else}
+use Rattle.rules.specs.Places.{all-zero, places-good, table-of}
+use Rattle.answer.specs.Refusals.{or-else}
+use Rattle.refusal.specs.Refusals.{table-refusal}
 
 unfoldable pub byte-sum : List ℕ → ℕ
 byte-sum [] = 0

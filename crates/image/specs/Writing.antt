@@ -5,7 +5,9 @@ use Prim.Native.Nat.{ℕ, zero, suc, _+_, _*_, _-_, _/_, _%_, min}
 use lib.Dec.{leb, eqb}
 use lib.ListN.{length, take, drop, replicate}
 use Rattle.area.specs.Numbers.{low-first}
-use Rattle.rules.specs.Places.{places-good, rule-count, table-of, table-refusal, or-else}
+use Rattle.rules.specs.Places.{places-good, rule-count, table-of}
+use Rattle.answer.specs.Refusals.{or-else}
+use Rattle.refusal.specs.Refusals.{table-refusal}
 use Rattle.image.specs.Image.{checksum}
 
 -- 63 rules in all blocks but the last

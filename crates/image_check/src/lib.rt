@@ -58,7 +58,7 @@ fn blocks_pass(check: u32, image: &[u8], count: usize) -> bool
 }
 
 // REFUSALS 2 TO 5 of an image, 0 where there is none: each check is made over all blocks before the next.
-pub fn layout_refusal(image: &[u8]) -> u32
+pub fn layout_refusal(image: &[u8]) -> u8
     ensures { λ r. ⌜ r ≡ layout-refusal (now (image .entry)) ⌝ }
 {
     let count = image.len() / 512;
@@ -84,7 +84,7 @@ pub fn layout_refusal(image: &[u8]) -> u32
 }
 
 // REFUSALS 2, 4 AND 5 of a job count and a list of 8-byte rules, 0 where there is none.
-pub fn list_refusal(jobs: u32, rules: &[u8]) -> u32
+pub fn list_refusal(jobs: u32, rules: &[u8]) -> u8
     ensures { λ r. ⌜ r ≡ list-refusal jobs (now (rules .entry)) ⌝ }
 {
     let count = rules.len() / 8;

@@ -2,23 +2,8 @@
 ghost use mathlib.Core.Path.{_≡_};
 ghost use Prim.Native.Nat.{_*_, _≤_};
 ghost use lib.ListN.{length};
-ghost use Rattle.bpa.specs.Plans.{all-below};
 ghost use Rattle.rules.specs.Places.{all-zero, place-good, places-good};
 ghost use Rattle.image.specs.Image.{rules-in-block, places-of-block};
-
-fn all_below(bound: usize, bytes: &[u8]) -> bool
-    ensures { λ r. ⌜ r ≡ all-below bound (now (bytes .entry)) ⌝ }
-{
-    let mut i: usize = 0;
-    while i < bytes.len() {
-        if area::wide(bytes[i]) < bound {
-            i += 1;
-        } else {
-            return false;
-        }
-    }
-    true
-}
 
 fn all_zero(bytes: &[u8]) -> bool
     ensures { λ r. ⌜ r ≡ all-zero (now (bytes .entry)) ⌝ }
@@ -47,7 +32,7 @@ fn place_good(jobs: usize, place: &[u8]) -> bool
         return false;
     }
     let end = 3 + after;
-    if all_below(jobs, &place[3..end]) {
+    if rules::all_below(jobs, &place[3..end]) {
         return all_zero(&place[end..8]);
     }
     false

@@ -1,8 +1,8 @@
 // The writer of images: each block is filled in its own part of the output.
 ghost use mathlib.Core.Path.{_≡_};
-ghost use mathlib.Core.List.{_++_};
 ghost use Prim.Native.Nat.{_+_, _≤_, _<_, min};
-ghost use lib.ListN.{length, drop};
+ghost use lib.ListN.{length};
+ghost use Rattle.area.specs.Areas.{IsPut};
 ghost use Rattle.image.specs.Writing.{written, list-refusal};
 ghost use Rattle.image.specs.Filling.{Fills, filled};
 
@@ -34,9 +34,7 @@ fn least(a: usize, b: usize) -> usize
 pub fn write_blocks(jobs: u32, rules: &[u8], out: &mut [u8]) -> usize
     requires { ⌜ list-refusal jobs (now rules) ≡ 0 ⌝ }
     requires { ⌜ length (written jobs (now rules)) ≤ length (now out) ⌝ }
-    ensures { λ r. ⌜ r ≡ length (written jobs (now (rules .entry))) ⌝ }
-    ensures { λ _. do
-      ⌜ now (out .exit) ≡ written jobs (now (rules .entry)) ++ drop (length (written jobs (now (rules .entry)))) (now (out .entry)) ⌝ }
+    ensures { λ r. ⌜ IsPut 0 (written jobs (now (rules .entry))) (now (out .entry)) r (now (out .exit)) ⌝ }
 {
     let blocks = (rules.len() / 8 + 62) / 63;
     let mut k: usize = 0;

@@ -1,3 +1,2 @@
--- Laws of the calls that read and write images.
-pub mod Reading
-pub mod Writing
+-- Laws of the calls about images.
+pub mod ImageBytes

@@ -1,5 +1,22 @@
 // The calls that read and write images.
-ghost use Rattle.entries.specs.Entries.{Read, Written};
+ghost use mathlib.Core.List.{_∷_};
+ghost use Prim.Native.Nat.{_≤_, _<_};
+ghost use lib.ListN.{length};
+ghost use Rattle.answer.specs.Answer.{Writes};
+ghost use Rattle.images.specs.ImageCalls.{Read, Written};
+
+// Writes a job count in one byte, then the rules, or refuses by 10.
+fn write_table(jobs: usize, rules: &[u8], out: &mut [u8]) -> i32
+    requires { ⌜ jobs < 256 ⌝ }
+    requires { ⌜ length (now rules) ≤ 2016 ⌝ }
+    ensures { λ r. ⌜ Writes 0 (jobs ∷ now (rules .entry)) (now (out .entry)) r (now (out .exit)) ⌝ }
+{
+    if out.len() < 1 + rules.len() {
+        return -10;
+    }
+    out[0] = jobs as u8;
+    answer::result(area::put(out, 1, rules))
+}
 
 // The table of an image: the job count in one byte, then the rules, 8 bytes each.
 pub fn read_image(image: &[u8], out: &mut [u8]) -> i32
@@ -10,14 +27,7 @@ pub fn read_image(image: &[u8], out: &mut [u8]) -> i32
     if refusal != 0 {
         return answer::refused(refusal);
     }
-    let rules = table.rules;
-    let end = 8 * table.count;
-    let need = 1 + end;
-    if out.len() < need {
-        return -10;
-    }
-    out[0] = table.jobs as u8;
-    answer::result(area::put(out, 1, &rules[0..end]))
+    write_table(table.jobs, table::rules_of(&table.rules, table.end), out)
 }
 
 // The image of a job count and a list of 8-byte rules, each laid out as a place of the image.
@@ -28,8 +38,7 @@ pub fn write_image(jobs: u32, rules: &[u8], out: &mut [u8]) -> i32
     if refusal != 0 {
         return answer::refused(refusal);
     }
-    let need = 512 * ((rules.len() / 8 + 62) / 63);
-    if out.len() < need {
+    if out.len() < 512 * ((rules.len() / 8 + 62) / 63) {
         return -10;
     }
     answer::result(image_write::write_blocks(jobs, rules, out))

@@ -1,14 +1,13 @@
 -- The first line, of a table that was loaded or of its refusal. Assumes nothing.
 use mathlib.Core.Path.{_≡_, refl, sym, ap, ap₂, subst, _∙_}
 use mathlib.Core.List.{List}
-use Prim.Native.Nat.{ℕ, zero, suc}
+use Prim.Native.Nat.{ℕ, zero, suc, _/_}
 use native.Mathlib.Omega.{arith}
 use lib.ListN.{length}
 use Rattle.bpa.specs.Plans.{Table}
-use Rattle.rules.specs.Places.{rule-count, table-of}
-use Rattle.rules.proofs.ListLaws.{length-rules-in}
-use Rattle.image.specs.Image.{image-refusal, image-places, table-in}
-use Rattle.table.specs.Loading.{HoldsAccepted, Loads}
+use Rattle.image.specs.Image.{image-refusal, table-in}
+use Rattle.table.specs.Tables.{Loads}
+use Rattle.table.proofs.HeldTables.{held-jobs, held-rules}
 use Rattle.look.specs.Lines.{IsLine, refused-line, table-line}
 use Rattle.look.specs.Reports.{first-line, jobs-shown, TableReport}
 
@@ -25,25 +24,14 @@ unfolding first-line jobs-shown
 accepted zero t h = (refl, refl)
 accepted (suc n) t h = absurd (omega arith)
 
-module _ (bs : List ℕ) (f jobs count : ℕ) (rules ns : List ℕ) (l : Loads bs f jobs count rules ns) (o : List ℕ) (r : ℕ) (o′ : List ℕ) where
-  pub refused-first : (f ≡ 0 → ⊥) → IsLine (refused-line f) o r o′ → TableReport bs o 0 r o′
+module _ (bs : List ℕ) {f jobs end : ℕ} {rules ns : List ℕ} (l : Loads (image-refusal bs) (table-in bs) f jobs end rules ns) where
+  pub refused-first : {o o′ : List ℕ} {r : ℕ} → (f ≡ 0 → ⊥) → IsLine (refused-line f) o r o′ → TableReport bs o 0 r o′
   refused-first h k =
       let (a, b) = refused (image-refusal bs) (table-in bs) (λ z. h (l .refusal-is ∙ z)) in
       record { jobs-are = b; is-line = line-as (ap refused-line (l .refusal-is) ∙ a) k }
 
   module _ (z : f ≡ 0) where
-    table : HoldsAccepted bs jobs count rules ns
-    table = l .table z
-
-    count-is : count ≡ length (table-in bs .rules)
-    unfolding table-in table-of rule-count
-    count-is = omega (arith, length-rules-in (rule-count (image-places bs)) (image-places bs), table .count-is)
-
-    jobs-are : jobs ≡ table-in bs .jobs
-    unfolding table-in table-of
-    jobs-are = table .jobs-are
-
-    pub table-first : IsLine (table-line jobs count) o r o′ → TableReport bs o jobs r o′
+    pub table-first : {o o′ : List ℕ} {r : ℕ} → IsLine (table-line jobs (end / 8)) o r o′ → TableReport bs o jobs r o′
     table-first k =
         let (a, b) = accepted (image-refusal bs) (table-in bs) (sym (l .refusal-is) ∙ z) in
-        record { jobs-are = jobs-are ∙ b; is-line = line-as (ap₂ table-line jobs-are count-is ∙ a) k }
+        record { jobs-are = held-jobs l z ∙ b; is-line = line-as (ap₂ table-line (held-jobs l z) (held-rules l z) ∙ a) k }

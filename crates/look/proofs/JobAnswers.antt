@@ -10,33 +10,32 @@ use lib.Dec.{ltb}
 use lib.IntN.{ℤ}
 use lib.ListN.{length, take}
 use Rattle.bpa.specs.Plans.{Table, over}
-use Rattle.bpa.specs.Norms.{sum-of, norms, norm, Good}
-use Rattle.bpa.specs.Method.{same, prime-form}
+use Rattle.bpa.specs.Norms.{sum-of, norms, norm}
+use Rattle.bpa.specs.Method.{prime-form}
 use Rattle.bpa.proofs.Basics.Cases.{by-test}
 use Rattle.bpa.proofs.Basics.Plans.{over-one, sum-one, length-norm}
 use Rattle.bpa.proofs.Answers.{form-exists, same-norm}
-use Rattle.rules.proofs.TableRefusals.{passed-small}
-use Rattle.norm.specs.Plans.{jobs-refusal, sum-refusal, plan-refusal}
+use Rattle.refusal.specs.Refusals.{jobs-refusal, sum-refusal, plan-refusal, Accepted}
 use Rattle.image.specs.Image.{image-refusal, table-in}
-use Rattle.answer.specs.Answer.{signed, with-room, Writes}
-use Rattle.answer.proofs.Writing.{next-refusal}
-use Rattle.entries.specs.Entries.{one-refusal, two-refusal, one-if, norm-answer, Compared, Formed}
-use Rattle.image.proofs.ListRefusal.{neither}
-use Rattle.workspace.proofs.Clearing.{space-long}
-use Rattle.promises.proofs.AcceptedTables.{image-passes, passed-table}
-use Rattle.promises.proofs.Results.{result-written}
+use Rattle.answer.specs.Refusals.{space-refusal, room-refusal}
+use Rattle.answer.specs.Answer.{signed, with-room, with-space, Writes, GivesWithSpace, WritesWithSpace}
+use Rattle.answer.proofs.RefusalChains.{passed-first, both-pass, neither}
+use Rattle.answer.proofs.Results.{result-written}
+use Rattle.table.proofs.ImageTables.{image-table}
+use Rattle.workspace.proofs.UsablePart.{long-passes}
+use Rattle.table.specs.CallRefusals.{one-plan}
 use Rattle.look.specs.Numbers.{result-in}
 
--- what comparing answers with a workspace
-pub compared : (bs p q s : List ℕ) (r : ℤ) (s′ : List ℕ) → Compared bs p q s r s′ → 65536 ≤ length s →
-    r ≡ signed (two-refusal bs p q) (one-if (same (table-in bs) p q))
-compared bs p q s r s′ c h = c .answer ∙ ap (λ (f : ℕ). signed f (one-if (same (table-in bs) p q))) (space-long s h (two-refusal bs p q))
+-- a call with a workspace that is long enough answers as if it had none
+module _ (s : List ℕ) (h : 65536 ≤ length s) where
+  no-space : (f : ℕ) → with-space s f ≡ f
+  no-space f = passed-first (space-refusal s) f (long-passes s h)
 
--- and what the prime form's call writes
-pub formed : (bs p o s : List ℕ) (r : ℤ) (o′ s′ : List ℕ) → Formed bs p o s r o′ s′ → 65536 ≤ length s →
-    Writes (one-refusal bs p) (prime-form (table-in bs) p) o r o′
-formed bs p o s r o′ s′ f h =
-    subst (λ (x : ℕ). Writes x (prime-form (table-in bs) p) o r o′) (space-long s h (one-refusal bs p)) (f .written)
+  pub given : (f v : ℕ) {r : ℤ} {s′ : List ℕ} → GivesWithSpace f v s r s′ → r ≡ signed f v
+  given f v c = c .answer ∙ ap (λ (x : ℕ). signed x v) (no-space f)
+
+  pub written : (f : ℕ) {bs o o′ s′ : List ℕ} {r : ℤ} → WritesWithSpace f bs o s r o′ s′ → Writes f bs o r o′
+  written f {bs} {o} {o′} {s′} {r} w = subst (λ (x : ℕ). Writes x bs o r o′) (no-space f) (w .written)
 
 at-most : (f v : ℕ) → result-in (signed f v) ≤ v
 unfolding signed result-in
@@ -54,11 +53,11 @@ full false e z = let y : true ≡ false = sym e in true≢false y
 
 -- a call writes no more than there is room for
 pub result-within : (f : ℕ) (bs o : List ℕ) (r : ℤ) (o′ : List ℕ) → Writes f bs o r o′ → result-in r ≤ length o
-unfolding with-room
+unfolding with-room room-refusal
 result-within f bs o r o′ w =
     let e : result-in r ≡ result-in (signed (with-room f bs o) (length bs)) = ap result-in (w .answer) in
     by-test (ltb (length o) (length bs))
-    (λ t. omega (arith, e, none (with-room f bs o) (length bs) (λ z. full (ltb (length o) (length bs)) t (neither f (cond (ltb (length o) (length bs)) 10 0) z .1))))
+    (λ t. omega (arith, e, none (with-room f bs o) (length bs) (λ z. full (ltb (length o) (length bs)) t (neither f (room-refusal bs o) z .1))))
     (λ t. omega (arith, e, at-most (with-room f bs o) (length bs), ltb-false (length o) (length bs) t))
 
 module _ (bs : List ℕ) (j : ℕ) (a : image-refusal bs ≡ 0) (h : j < table-in bs .jobs) where
@@ -68,36 +67,36 @@ module _ (bs : List ℕ) (j : ℕ) (a : image-refusal bs ≡ 0) (h : j < table-i
   abbrev p : List ℕ
   p = j ∷ []
 
-  good : Good t (norms t)
-  good = passed-table bs a
+  accepted : Accepted t
+  accepted = image-table bs a
 
   is-over : over t p ≡ true
   is-over = over-one t j h
 
   small : sum-of (norms t) p ≤ 512
-  small = omega (arith, sum-one (norms t) j, passed-small t (image-passes bs a .1) j)
+  small = omega (arith, sum-one (norms t) j, accepted .small j)
 
-  not-refused : one-refusal bs p ≡ 0
-  unfolding one-refusal plan-refusal jobs-refusal sum-refusal over
+  not-refused : one-plan bs p ≡ 0
+  unfolding plan-refusal jobs-refusal sum-refusal over
   not-refused =
-      next-refusal (image-refusal bs) (plan-refusal t p) a
-      ∙ next-refusal (jobs-refusal (t .jobs) p) (sum-refusal (norms t) p) (ap (λ (b : Bool). cond b 0 8) is-over)
-      ∙ ap (λ (b : Bool). cond b 0 9) (le-leb (sum-of (norms t) p) 4096 (omega (arith, small)))
+      both-pass (image-refusal bs) (plan-refusal t p) a
+      (both-pass (jobs-refusal (t .jobs) p) (sum-refusal (norms t) p) (ap (λ (b : Bool). cond b 0 8) is-over)
+      (ap (λ (b : Bool). cond b 0 9) (le-leb (sum-of (norms t) p) 4096 (omega (arith, small)))))
 
-  pub norm-shown : result-in (norm-answer bs p) ≡ norm t p
-  unfolding norm-answer signed result-in
+  pub norm-shown : result-in (signed (one-plan bs p) (norm t p)) ≡ norm t p
+  unfolding signed result-in
   norm-shown = ap (λ (f : ℕ). result-in (signed f (norm t p))) not-refused
 
   -- a form is no longer than its norm, which is the job's
   short : length (prime-form t p) ≤ 512
   unfolding norm
   short =
-      let f = form-exists t good p is-over .bisimilar in
-      omega (arith, length-norm t (norms t) good (prime-form t p) (f .over-right), same-norm t good p (prime-form t p) f, small)
+      let f = form-exists t (accepted .good) p is-over .bisimilar in
+      omega (arith, length-norm t (norms t) (accepted .good) (prime-form t p) (f .over-right), same-norm t (accepted .good) p (prime-form t p) f, small)
 
-  pub form-shown : (o : List ℕ) (r : ℤ) (o′ : List ℕ) → length o ≡ 512 → Writes (one-refusal bs p) (prime-form t p) o r o′ →
+  pub form-shown : (o : List ℕ) (r : ℤ) (o′ : List ℕ) → length o ≡ 512 → Writes (one-plan bs p) (prime-form t p) o r o′ →
       take (result-in r) o′ ≡ prime-form t p
   unfolding result-in
   form-shown o r o′ e w =
-      let (n, b) = result-written (one-refusal bs p) (prime-form t p) o r o′ not-refused (omega (arith, short)) w in
+      let (n, b) = result-written (one-plan bs p) (prime-form t p) o r o′ not-refused (omega (arith, short)) w in
       ap (λ (z : ℤ). take (result-in z) o′) n ∙ b

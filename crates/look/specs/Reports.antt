@@ -7,8 +7,8 @@ use Rattle.bpa.specs.Plans.{Table}
 use Rattle.bpa.specs.Norms.{norm}
 use Rattle.bpa.specs.Method.{same, prime-form}
 use Rattle.image.specs.Image.{image-refusal, table-in}
-use Rattle.answer.specs.Answer.{signed}
-use Rattle.entries.specs.Entries.{two-refusal, one-if}
+use Rattle.answer.specs.Answer.{signed, one-if}
+use Rattle.table.specs.CallRefusals.{two-plans}
 use Rattle.area.specs.Areas.{IsPut}
 use Rattle.look.specs.Lines.{IsLine, refused-line, table-line, job-line, pair-line}
 
@@ -35,4 +35,4 @@ pub record JobReport (image : List ℕ) (job : ℕ) (line : List ℕ) (r : ℕ) 
 
 -- A PAIR'S LINE: whether its plans are the same, or why that is not answered
 abbrev pub PairReport : (image : List ℕ) → (pair : ℕ) → (left right line : List ℕ) → (r : ℕ) → (line′ : List ℕ) → Type 0
-PairReport bs k p q l r l′ = IsLine (pair-line k (signed (two-refusal bs p q) (one-if (same (table-in bs) p q)))) l r l′
+PairReport bs k p q l r l′ = IsLine (pair-line k (signed (two-plans bs p q) (one-if (same (table-in bs) p q)))) l r l′

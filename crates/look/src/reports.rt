@@ -25,7 +25,7 @@ pub fn table_report(image: &[u8], line: &mut [u8]) -> First
         };
     }
     let jobs = table.jobs;
-    let count = table.count;
+    let count = table.end / 8;
     let size = lines::table_line(jobs as u64, count as u64, line);
     First {
         jobs: jobs as u8,

@@ -1,4 +1,4 @@
 -- Laws of the n-th move.
 pub mod NthRule
 pub mod NoSuchMove
-pub mod Answers
+pub mod MoveByRule

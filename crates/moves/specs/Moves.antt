@@ -4,7 +4,7 @@ use mathlib.Core.Bool.{cond}
 use mathlib.Core.List.{List, [], _∷_, _++_}
 use Prim.Native.Nat.{ℕ, zero, suc, _≤_}
 use lib.Dec.{ltb, eqb}
-use lib.ListN.{length, drop}
+use lib.ListN.{length}
 use Rattle.bpa.specs.Plans.{Rule, Table, Move, job-moves}
 use Rattle.rules.specs.Places.{rules-in, rule-count, rule-at}
 use Rattle.rules.specs.Lists.{HasPlace}
@@ -37,8 +37,3 @@ pub record IsNth (rs : List ℕ) (j n i : ℕ) : Type 0 where
 pub record RoomFor (rs : List ℕ) (i : ℕ) (w out : List ℕ) : Type 0 where
   pub rule : HasPlace rs i
   pub room : length (bytes-by rs i w) ≤ length out
-
--- bytes in front of what an area held behind them
-pub record InFront (bytes out : List ℕ) (r : ℕ) (out′ : List ℕ) : Type 0 where
-  pub count : r ≡ length bytes
-  pub output : out′ ≡ bytes ++ drop (length bytes) out

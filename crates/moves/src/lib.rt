@@ -4,8 +4,9 @@ ghost use lib.ListN.{length};
 ghost use Rattle.bpa.specs.Plans.{moves};
 ghost use Rattle.rules.specs.Places.{table-of};
 ghost use Rattle.rules.specs.Lists.{GoodList};
+ghost use Rattle.area.specs.Areas.{IsPut};
 ghost use Rattle.answer.specs.Answer.{Writes};
-ghost use Rattle.moves.specs.Moves.{move-bytes, bytes-by, IsNth, RoomFor, InFront};
+ghost use Rattle.moves.specs.Moves.{move-bytes, bytes-by, IsNth, RoomFor};
 
 // The place of a job's rule by its index among the job's rules; the number of all rules if there is none.
 fn find_rule(rules: &[u8], job: usize, index: u32) -> usize
@@ -31,7 +32,7 @@ fn find_rule(rules: &[u8], job: usize, index: u32) -> usize
 // Writes a move: its number, the jobs after it, the jobs that wait.
 fn write_move(rules: &[u8], i: usize, waiting: &[u8], out: &mut [u8]) -> usize
     requires { ⌜ RoomFor (now rules) i (now waiting) (now out) ⌝ }
-    ensures { λ r. ⌜ InFront (bytes-by (now (rules .entry)) i (now (waiting .entry))) (now (out .entry)) r (now (out .exit)) ⌝ }
+    ensures { λ r. ⌜ IsPut 0 (bytes-by (now (rules .entry)) i (now (waiting .entry))) (now (out .entry)) r (now (out .exit)) ⌝ }
 {
     out[0] = rules::rule_move(rules, i) as u8;
     let behind = area::put(out, 1, rules::rule_after(rules, i));

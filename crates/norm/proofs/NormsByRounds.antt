@@ -10,7 +10,7 @@ use Rattle.bpa.specs.Plans.{Table}
 use Rattle.bpa.specs.Norms.{norms, capped-round, capped-rounds}
 use Rattle.bpa.proofs.Basics.Zeros.{zeros-at}
 use Rattle.bpa.proofs.Norm.NormRounds.{next, next-length}
-use Rattle.bpa.proofs.Norm.NormCap.{capped-norms, capped-one-more, capped-settled}
+use Rattle.bpa.proofs.Norm.NormCap.{capped-sums, capped-one-more, capped-settled}
 use Rattle.norm.specs.NormArrays.{Agree, IsRound, NormArray}
 use Rattle.norm.proofs.Agreement.{capped-agree}
 
@@ -81,5 +81,5 @@ module _ (t : Table) where
   unfolding after-rounds
   ended a h = record {
     size = h .size;
-    at = capped-at a (λ j. h .agree j ∙ ap (λ (x : List ℕ). getD x j 0) (sym (capped-norms 513 one t)));
+    at = capped-at a (λ j. h .agree j ∙ ap (λ (x : List ℕ). getD x j 0) (sym (capped-sums 513 one t)));
   }

@@ -1,3 +1,2 @@
--- Norms as an array, and refusals 8 and 9.
+-- Norms as an array.
 pub mod NormArrays
-pub mod Plans

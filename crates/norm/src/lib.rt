@@ -4,7 +4,7 @@ ghost use mathlib.Core.Bool.{true};
 ghost use Prim.Native.Nat.{ℕ, _≤_, _<_, min};
 ghost use lib.ListN.{length, getD};
 ghost use Rattle.bpa.specs.Plans.{all-below};
-ghost use Rattle.bpa.specs.Norms.{lesser};
+ghost use Rattle.bpa.specs.Norms.{sum-of, lesser};
 ghost use Rattle.rules.specs.Places.{table-of};
 ghost use Rattle.rules.specs.Lists.{GoodList};
 ghost use Rattle.norm.specs.NormArrays.{IsNorm, norm-by, IsRound, NormArray};
@@ -40,6 +40,24 @@ fn wide_norm(n: u16) -> u32
     ensures { λ r. ⌜ IsNorm n r ⌝ }
 {
     n as u32
+}
+
+// The sum of the numbers of a plan's jobs, counted up to 4,097. By the norms of jobs it is the plan's norm.
+pub fn capped_sum(numbers: &[u16; 24], plan: &[u8]) -> u32
+    requires { ⌜ all-below 24 (now plan) ≡ true ⌝ }
+    ensures { λ r. ⌜ r ≡ min 4097 (sum-of (now (numbers .entry)) (now (plan .entry))) ⌝ }
+{
+    let mut sum: u32 = 0;
+    let mut k = 0;
+    while k < plan.len() {
+        let job = plan[k] as usize;
+        k += 1;
+        sum += norm_of(numbers, job);
+        if 4096 < sum {
+            return 4097;
+        }
+    }
+    sum
 }
 
 // A job's norm by way of a rule with these jobs after it; 0 is none yet.

@@ -1,47 +1,56 @@
 // The calls about one plan: its norm, its n-th move, a shortest run.
-ghost use mathlib.Core.Path.{_≡_};
-ghost use Rattle.entries.specs.Entries.{norm-answer, Moved, Ran};
+use answer::or_else;
+use refusal::plan_refusal;
+use table::rules_of;
+ghost use Rattle.plans.specs.PlanCalls.{Normed, Moved, Ran};
 
 // The fewest moves that lead to the empty plan.
 pub fn plan_norm(image: &[u8], plan: &[u8]) -> i32
-    ensures { λ r. ⌜ r ≡ norm-answer (now (image .entry)) (now (plan .entry)) ⌝ }
+    ensures { λ r. ⌜ Normed (now (image .entry)) (now (plan .entry)) r ⌝ }
 {
-    let table = table::load_with(image, plan);
-    let refusal = table.refusal;
+    let table = table::load(image);
+    let norms = table.norms;
+    let refusal = or_else(table.refusal, plan_refusal(table.jobs, &norms, plan));
     if refusal != 0 {
         return answer::refused(refusal);
     }
-    let norms = table.norms;
-    answer::result(refusal::capped_norm(&norms, plan) as usize)
+    answer::result(norm::capped_sum(&norms, plan) as usize)
 }
 
 // The n-th move, n from 0: the move, then the remaining plan, one for each rule of the first job in image order.
 pub fn nth_move(image: &[u8], plan: &[u8], index: u32, out: &mut [u8]) -> i32
     ensures { λ r. ⌜ Moved (now (image .entry)) (now (plan .entry)) index (now (out .entry)) r (now (out .exit)) ⌝ }
 {
-    let table = table::load_with(image, plan);
-    let refusal = table.refusal;
+    let table = table::load(image);
+    let norms = table.norms;
+    let refusal = or_else(table.refusal, plan_refusal(table.jobs, &norms, plan));
     if refusal != 0 {
         return answer::refused(refusal);
     }
-    let jobs = table.jobs;
-    let rules = table.rules;
-    let end = 8 * table.count;
-    moves::nth_move(jobs, &rules[0..end], plan, index, out)
+    moves::nth_move(
+        table.jobs,
+        rules_of(&table.rules, table.end),
+        plan,
+        index,
+        out,
+    )
 }
 
 // A shortest run: as many moves as the norm.
 pub fn shortest_run(image: &[u8], plan: &[u8], out: &mut [u8]) -> i32
     ensures { λ r. ⌜ Ran (now (image .entry)) (now (plan .entry)) (now (out .entry)) r (now (out .exit)) ⌝ }
 {
-    let table = table::load_with(image, plan);
-    let refusal = table.refusal;
+    let table = table::load(image);
+    let norms = table.norms;
+    let refusal = or_else(table.refusal, plan_refusal(table.jobs, &norms, plan));
     if refusal != 0 {
         return answer::refused(refusal);
     }
-    let jobs = table.jobs;
-    let rules = table.rules;
-    let norms = table.norms;
-    let end = 8 * table.count;
-    runs::shortest_run(jobs, &rules[0..end], &norms, plan, out)
+    runs::shortest_run(
+        table.jobs,
+        rules_of(&table.rules, table.end),
+        &norms,
+        plan,
+        out,
+    )
 }

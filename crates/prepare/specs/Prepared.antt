@@ -1,12 +1,12 @@
 -- What is worked out once from a list of rules and the norms of its jobs. Assumes nothing: these are definitions.
 use mathlib.Core.Path.{_≡_}
-use mathlib.Core.Bool.{Bool, _&&_, cond}
+use mathlib.Core.Bool.{Bool, true, _&&_, cond}
 use mathlib.Core.List.{List, [], _∷_, _++_}
 use Prim.Native.Nat.{ℕ, suc, _+_, _-_, _*_, _%_, _^_, _≤_, _<_}
 use lib.Bits.{bitOr}
 use lib.Dec.{eqb}
 use lib.ListN.{length, getD, drop}
-use Rattle.bpa.specs.Plans.{Rule, Move}
+use Rattle.bpa.specs.Plans.{Rule, Move, all-below}
 use Rattle.bpa.specs.Norms.{sum-of, Good}
 use Rattle.bpa.specs.Method.{lowering}
 use Rattle.rules.specs.Places.{rule-at, rule-count, rules-in, table-of}
@@ -41,7 +41,7 @@ lowers ns j r = eqb (r .job) j && eqb (getD ns j 0) (suc (sum-of ns (r .after)))
 -- what the norm of a row asks, and gives
 pub record ShortRow (ns row : List ℕ) : Type 0 where
   pub few : length row ≤ 4
-  pub below : (i : ℕ) → i < length row → getD row i 0 < 24
+  pub below : all-below 24 row ≡ true
   pub most : (i : ℕ) → i < length row → getD ns (getD row i 0) 0 ≤ 512
 
 pub record RowNorm (ns row : List ℕ) (r : ℕ) : Type 0 where

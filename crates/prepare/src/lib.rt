@@ -1,6 +1,5 @@
 // What is worked out once from a list of rules and the norms of its jobs: the norm of each rule's row, the first norm-lowering rule of
 // each job, and the rules of each job as a chain.
-use area::wide;
 use rules::rule_after;
 use rules::rule_job;
 use rules::rule_move;
@@ -16,13 +15,7 @@ fn row_norm(norms: &[u16; 24], row: &[u8]) -> u16
     requires { ⌜ ShortRow (now norms) (now row) ⌝ }
     ensures { λ r. ⌜ RowNorm (now (norms .entry)) (now (row .entry)) r ⌝ }
 {
-    let mut sum: u16 = 0;
-    let mut i = 0;
-    while i < row.len() {
-        sum += norms[wide(row[i])];
-        i += 1;
-    }
-    sum
+    norm::capped_sum(norms, row) as u16
 }
 
 // The norm of the jobs after each rule.

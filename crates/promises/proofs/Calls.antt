@@ -1,31 +1,31 @@
 -- EVERY PROMISE about the bytes that the calls write, with its proved term. Assumes nothing.
-use mathlib.Core.Path.{_≡_, refl, sym, ap, _∙_}
-use mathlib.Core.Bool.{Bool, true, false}
+use mathlib.Core.Path.{_≡_, sym, ap, _∙_}
+use mathlib.Core.Bool.{true}
 use mathlib.Core.List.{List, [], _∷_}
 use mathlib.Core.Logic.{_↔_}
 use Prim.Native.Nat.{ℕ, suc, _-_}
 use native.Mathlib.Omega.{arith}
 use lib.ListN.{length, getD, take, drop}
-use Rattle.bpa.specs.Plans.{over}
 use Rattle.bpa.specs.Bisimilar.{Bisimilar}
 use Rattle.bpa.specs.Method.{same, prime-form}
 use Rattle.bpa.proofs.Basics.Cases.{by-test, never-both}
 use Rattle.bpa.proofs.Answers.{same-exact, same-forms}
 use Rattle.rules.specs.Places.{table-bytes}
-use Rattle.norm.specs.Plans.{plan-refusal, plans-refusal}
-use Rattle.refusal.proofs.Plans.{accepted-plan, accepted-plans}
+use Rattle.answer.specs.Refusals.{space-refusal}
+use Rattle.answer.specs.Answer.{one-if, Writes, with-space}
+use Rattle.answer.proofs.RefusalChains.{neither}
+use Rattle.answer.proofs.Results.{result-is, one-yes, one-no, written-result, result-written}
+use Rattle.refusal.specs.Refusals.{plan-refusal, plans-refusal}
+use Rattle.refusal.proofs.PlanRefusals.{accepted-plan, accepted-plans}
 use Rattle.image.specs.Image.{image-refusal, image-jobs, image-places, table-in}
 use Rattle.image.specs.Writing.{write-refusal, written}
-use Rattle.image.proofs.ListRefusal.{neither}
 use Rattle.image.proofs.TableBytes.{bytes-of-image}
 use Rattle.image.proofs.ImageBack as images
 use Rattle.image.proofs.TableBack as tables
-use Rattle.answer.specs.Answer.{Writes, with-space}
-use Rattle.entries.specs.Entries.{one-refusal, two-refusal, one-if}
+use Rattle.table.specs.CallRefusals.{one-plan, two-plans}
 use Rattle.promises.specs.Promises.{all-bytes}
 use Rattle.promises.specs.Calls as promised
-use Rattle.promises.proofs.AcceptedTables.{image-passes, passed-table}
-use Rattle.promises.proofs.Results.{result-is, written-result, result-written, space-result}
+use Rattle.table.proofs.ImageTables.{image-passes, image-table}
 
 -- a job count and the rest of what was read
 parts : (n j : ℕ) (o ps : List ℕ) → n ≡ suc (length ps) → take n o ≡ j ∷ ps → (getD o 0 0 ≡ j) × (take (n - 1) (drop 1 o) ≡ ps)
@@ -60,45 +60,36 @@ table-survives jobs rs o o′ u u′ n r w v l =
     let m = result-written (image-refusal (written jobs rs)) (table-bytes (table-in (written jobs rs))) u r u′ z (rw e l) k in
     rw e at m
 
-one-true : (b : Bool) → (one-if b ≡ 1 → b ≡ true) × (b ≡ true → one-if b ≡ 1)
-unfolding one-if
-one-true true = (λ e. refl, λ e. refl)
-one-true false = (λ e. absurd (omega arith), λ e. absurd (never-both false e refl))
-
-one-false : (b : Bool) → (one-if b ≡ 0 → b ≡ false) × (b ≡ false → one-if b ≡ 0)
-unfolding one-if
-one-false true = (λ e. absurd (omega arith), λ e. absurd (never-both true refl e))
-one-false false = (λ e. refl, λ e. refl)
-
 pub compare-tells : promised.Compare-tells
-unfolding promised.Compare-tells two-refusal
+unfolding promised.Compare-tells
 compare-tells bs p q s s′ n w =
     let t = table-in bs in
-    let (f, v) = result-is (with-space s (two-refusal bs p q)) (one-if (same t p q)) n (w .answer) in
-    let (i, k) = neither (image-refusal bs) (plans-refusal t p q) (space-result s (two-refusal bs p q) f) in
+    let checks = two-plans bs p q in
+    let (f, v) = result-is (with-space s checks) (one-if (same t p q)) n (w .answer) in
+    let (i, k) = neither (image-refusal bs) (plans-refusal t p q) (neither (space-refusal s) checks f .1) in
     let (a, c) = accepted-plans t p q k in
-    let exact : (same t p q ≡ true) ↔ Bisimilar t p q = same-exact t (passed-table bs i) p q (a .over) (c .over) in (
+    let exact : (same t p q ≡ true) ↔ Bisimilar t p q = same-exact t (image-table bs i .good) p q (a .over-table) (c .over-table) in (
       (
-        (λ e. exact .0 (one-true (same t p q) .0 (sym v ∙ e))),
-        (λ e. v ∙ one-true (same t p q) .1 (exact .1 e)),
+        (λ e. exact .0 (one-yes (same t p q) .0 (sym v ∙ e))),
+        (λ e. v ∙ one-yes (same t p q) .1 (exact .1 e)),
       ),
       (
-        (λ e d. never-both (same t p q) (exact .1 d) (one-false (same t p q) .0 (sym v ∙ e))),
-        (λ d. v ∙ one-false (same t p q) .1 (by-test (same t p q) (λ e. absurd (d (exact .0 e))) (λ e. e))),
+        (λ e d. never-both (same t p q) (exact .1 d) (one-no (same t p q) .0 (sym v ∙ e))),
+        (λ d. v ∙ one-no (same t p q) .1 (by-test (same t p q) (λ e. absurd (d (exact .0 e))) (λ e. e))),
       ),
     )
 
 pub forms-written : promised.Forms-written
-unfolding promised.Forms-written one-refusal
+unfolding promised.Forms-written
 forms-written bs p q o o′ s s′ u u′ v v′ n m w x =
     let t = table-in bs in
-    let a = written-result (with-space s (one-refusal bs p)) (prime-form t p) o o′ n (w .written) in
-    let b = written-result (with-space v (one-refusal bs q)) (prime-form t q) u u′ m (x .written) in
-    let (i, k) = neither (image-refusal bs) (plan-refusal t p) (space-result s (one-refusal bs p) (a .passed)) in
-    let (i′, l) = neither (image-refusal bs) (plan-refusal t q) (space-result v (one-refusal bs q) (b .passed)) in
-    let oₚ = accepted-plan t p k .over in
-    let o₌ = accepted-plan t q l .over in
-    let g = passed-table bs i in
+    let a = written-result (with-space s (one-plan bs p)) (prime-form t p) o o′ n (w .written) in
+    let b = written-result (with-space v (one-plan bs q)) (prime-form t q) u u′ m (x .written) in
+    let (i, k) = neither (image-refusal bs) (plan-refusal t p) (neither (space-refusal s) (one-plan bs p) (a .passed) .1) in
+    let (i′, l) = neither (image-refusal bs) (plan-refusal t q) (neither (space-refusal v) (one-plan bs q) (b .passed) .1) in
+    let oₚ = accepted-plan t p k .over-table in
+    let o₌ = accepted-plan t q l .over-table in
+    let g = image-table bs i .good in
     let forms = same-forms t g p q oₚ o₌ in
     let exact = same-exact t g p q oₚ o₌ in (
       (λ e. exact .0 (forms .1 (sym (a .bytes) ∙ e ∙ b .bytes))),

@@ -12,11 +12,12 @@ use Rattle.area.specs.Numbers.{number-at, low-first}
 use Rattle.bpa.specs.Plans.{all-below}
 use Rattle.bpa.specs.Norms.{sum-of, all-known, lesser, best, one-round, rounds, norms}
 use Rattle.bpa.proofs.Basics.Cases.{and-left, and-right}
-use Rattle.rules.specs.Places.{all-zero, rule-in, place-good, places-good, rules-in, rule-count, table-of, any-zero, any-above, table-refusal, or-else}
-use Rattle.norm.specs.Plans.{jobs-refusal, sum-refusal, plans-refusal}
+use Rattle.rules.specs.Places.{all-zero, rule-in, place-good, places-good, rules-in, rule-count, table-of}
+use Rattle.answer.specs.Refusals.{or-else}
+use Rattle.refusal.specs.Refusals.{any-zero, any-above, norms-refusal, table-refusal, jobs-refusal, sum-refusal, plans-refusal}
 use Rattle.image.specs.Image.{byte-sum, checksum, block, blocks-in, rules-in-block, block-places, each-block, length-good, sum-good, rules-fit, head-of, head-good, places-of-block, block-good, layout-refusal, places-from, image-jobs, image-places, table-in, image-refusal}
 use Rattle.image.specs.Writing.{blocks-for, rules-for, body, written-block, written-from, written, list-refusal, write-refusal}
-use Rattle.entries.specs.Entries.{two-refusal}
+use Rattle.table.specs.CallRefusals.{two-plans}
 
 -- a list that the writer refuses so, and its image too; two plans that are refused so; a byte of a written image
 pub data Case : Type 0 where
@@ -26,12 +27,12 @@ pub data Case : Type 0 where
 
 abbrev pub Means : Case → Type 0
 Means (refused-list n rs f) = (write-refusal n rs ≡ f) × (image-refusal (written n rs) ≡ f)
-Means (refused-pair n rs p q f) = two-refusal (written n rs) p q ≡ f
+Means (refused-pair n rs p q f) = two-plans (written n rs) p q ≡ f
 Means (byte-at n rs i v) = getD (written n rs) i 0 ≡ v
 
 unfoldable pub passes : Case → Bool
 passes (refused-list n rs f) = eqb (write-refusal n rs) f && eqb (image-refusal (written n rs)) f
-passes (refused-pair n rs p q f) = eqb (two-refusal (written n rs) p q) f
+passes (refused-pair n rs p q f) = eqb (two-plans (written n rs) p q) f
 passes (byte-at n rs i v) = eqb (getD (written n rs) i 0) v
 
 unfoldable pub all-pass : List Case → Bool
@@ -58,10 +59,10 @@ cases =
 
 pub cases-pass : all-pass cases ≡ true
 unfolding all-pass passes all-below sum-of all-known lesser best one-round rounds norms all-zero rule-in place-good places-good
-    rules-in rule-count table-of any-zero any-above table-refusal or-else jobs-refusal sum-refusal plans-refusal number-at byte-sum
+    rules-in rule-count table-of any-zero any-above norms-refusal table-refusal or-else jobs-refusal sum-refusal plans-refusal number-at byte-sum
     checksum block blocks-in rules-in-block block-places each-block length-good sum-good rules-fit head-of head-good places-of-block
     block-good layout-refusal places-from image-jobs image-places table-in image-refusal low-first blocks-for rules-for body
-    written-block written-from written list-refusal write-refusal two-refusal
+    written-block written-from written list-refusal write-refusal
 cases-pass = refl
 
 case-true : (c : Case) → passes c ≡ true → Means c
@@ -70,7 +71,7 @@ case-true (refused-list n rs f) e =
     let w = eqb (write-refusal n rs) f in
     let i = eqb (image-refusal (written n rs)) f in
     (eqb-true (write-refusal n rs) f (and-left w i e), eqb-true (image-refusal (written n rs)) f (and-right w i e))
-case-true (refused-pair n rs p q f) e = eqb-true (two-refusal (written n rs) p q) f e
+case-true (refused-pair n rs p q f) e = eqb-true (two-plans (written n rs) p q) f e
 case-true (byte-at n rs i v) e = eqb-true (getD (written n rs) i 0) v e
 
 all-mean : (cs : List Case) → all-pass cs ≡ true → (c : Case) → List·Memᴰ c cs → Means c

@@ -8,7 +8,8 @@ use lib.IntN.{ℤ, pos}
 use lib.ListN.{length, getD, take, drop}
 use Rattle.bpa.specs.Bisimilar.{Bisimilar}
 use Rattle.image.specs.Image.{table-in}
-use Rattle.entries.specs.Entries.{Read, Written, Compared, Formed}
+use Rattle.images.specs.ImageCalls.{Read, Written}
+use Rattle.sameness.specs.SamenessCalls.{Compared, Formed}
 use Rattle.promises.specs.Promises.{all-bytes}
 
 -- what reading an image wrote, written again, is the image byte for byte

@@ -1,5 +1,5 @@
--- Laws of refusals 6 to 9, and what a table that none of 6 and 7 meets is.
-pub mod Rows
-pub mod Chains
-pub mod Accepted
-pub mod Plans
+-- Laws of refusals 6 to 9, and of what none of them meets.
+pub mod NormsRefusal
+pub mod TableRefusals
+pub mod NormArray
+pub mod PlanRefusals

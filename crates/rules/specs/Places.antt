@@ -1,11 +1,10 @@
 -- Places: a rule as 8 bytes, and a list of them as a table. Assumes nothing: these are definitions.
-use mathlib.Core.Bool.{Bool, true, false, _&&_, _||_, cond}
+use mathlib.Core.Bool.{Bool, true, _&&_}
 use mathlib.Core.List.{List, [], _∷_, _++_}
 use Prim.Native.Nat.{ℕ, zero, suc, _+_, _*_, _-_, _/_}
 use lib.Dec.{ltb, leb, eqb}
 use lib.ListN.{length, getD, take, drop, replicate}
 use Rattle.bpa.specs.Plans.{Rule, Table, all-below}
-use Rattle.bpa.specs.Norms.{norms}
 
 unfoldable pub all-zero : List ℕ → Bool
 all-zero [] = true
@@ -40,22 +39,6 @@ rule-count rs = length rs / 8
 
 unfoldable pub table-of : (jobs : ℕ) → (rules : List ℕ) → Table
 table-of n rs = record { jobs = n; rules = rules-in (rule-count rs) rs }
-
--- REFUSALS 6 AND 7 of a table: a job without a norm, then a norm above 512
-unfoldable pub any-zero : List ℕ → Bool
-any-zero [] = false
-any-zero (n ∷ ns) = eqb n 0 || any-zero ns
-
-unfoldable pub any-above : (most : ℕ) → List ℕ → Bool
-any-above m [] = false
-any-above m (n ∷ ns) = ltb m n || any-above m ns
-
-unfoldable pub table-refusal : Table → ℕ
-table-refusal t = cond (any-zero (norms t)) 6 (cond (any-above 512 (norms t)) 7 0)
-
--- the first refusal in checking order; 0 is none
-unfoldable pub or-else : (first then : ℕ) → ℕ
-or-else a b = cond (eqb a 0) b a
 
 -- a table as bytes: the job count, then each rule as a place
 unfoldable pub place-of : Rule → List ℕ

@@ -4,6 +4,7 @@ ghost use mathlib.Core.Path.{_≡_};
 ghost use Prim.Native.Nat.{_<_};
 ghost use lib.ListN.{length};
 ghost use Rattle.area.specs.Areas.{IsByte};
+ghost use Rattle.bpa.specs.Plans.{all-below};
 ghost use Rattle.rules.specs.Places.{rule-at, rule-count};
 ghost use Rattle.rules.specs.Lists.{HasPlace, IsCount};
 
@@ -46,4 +47,19 @@ pub fn rule_after(rules: &[u8], i: usize) -> &[u8]
     let start = 8 * i + 3;
     let end = start + rule_len(rules, i);
     &rules[start..end]
+}
+
+// Whether every job of a row is below a bound. All of it is looked at.
+pub fn all_below(bound: usize, bytes: &[u8]) -> bool
+    ensures { λ r. ⌜ r ≡ all-below bound (now (bytes .entry)) ⌝ }
+{
+    let mut k = 0;
+    while k < bytes.len() {
+        let job = bytes[k] as usize;
+        k += 1;
+        if job >= bound {
+            return false;
+        }
+    }
+    true
 }

@@ -1,6 +1,6 @@
 -- The run of a plan, job by job, and its answer. Assumes nothing.
-use mathlib.Core.Path.{_≡_, refl, sym, ap, ap₂, _∙_, subst}
-use mathlib.Core.Bool.{Bool, cond}
+use mathlib.Core.Path.{_≡_, sym, ap, ap₂, _∙_, subst}
+use mathlib.Core.Bool.{true}
 use mathlib.Core.List.{List, [], _∷_}
 use Prim.Native.Nat.{ℕ, _+_, _≤_, _<_}
 use native.Mathlib.Numerals.{add-one}
@@ -8,12 +8,11 @@ use native.Mathlib.Omega.{arith}
 use lib.IntN.{ℤ, pos, negsuc}
 use lib.ListN.{length, getD, drop, drop-of-length-le}
 use lib.Seq.{drop-cons}
-use borrow.Author.Tests.{lt-ltb, le-ltb}
-use Rattle.bpa.specs.Plans.{Table}
-use Rattle.bpa.specs.Norms.{sum-of, norms, norm}
-use Rattle.answer.specs.Answer.{signed}
-use Rattle.area.proofs.PutLaws.{put-front}
-use Rattle.runs.specs.Runs.{Written, room-refusal, Run-output, ShortestRun}
+use Rattle.bpa.specs.Plans.{Table, over}
+use Rattle.bpa.specs.Norms.{sum-of, norms, norm, Good}
+use Rattle.bpa.proofs.Norm.NormFewest.{norm-fewest}
+use Rattle.answer.proofs.Answers.{too-short, written}
+use Rattle.runs.specs.Runs.{Written, WritesRun}
 use Rattle.runs.proofs.RunLaws.{written-more, written-waiting}
 
 module _ (t : Table) (p o : List ℕ) where
@@ -40,27 +39,17 @@ module _ (t : Table) (p o : List ℕ) where
           (written-waiting t (drop (k + 1) p) (x ∷ []) [] to r out out′ b)
 
   -- the two answers
-  refused : length o < norm t p → room-refusal t p o ≡ 10
-  unfolding room-refusal
-  refused h = ap (λ (b : Bool). cond b 10 0) (lt-ltb (length o) (norm t p) h)
+  pub no-room : Good t (norms t) → over t p ≡ true → length o < norm t p → WritesRun t p o (negsuc 9) o
+  no-room g v h =
+      let (run, runs, count) = norm-fewest t g p v .0 in
+      record { run = run; shortest = record { runs = runs; count = count }; written = too-short run o (omega arith) }
 
-  granted : norm t p ≤ length o → room-refusal t p o ≡ 0
-  unfolding room-refusal
-  granted h = ap (λ (b : Bool). cond b 10 0) (le-ltb (length o) (norm t p) h)
-
-  pub too-short : length o < norm t p → ShortestRun t p o (negsuc 9) o
-  unfolding signed
-  too-short h = record {
-    answer = ap (λ (f : ℕ). signed f (norm t p)) (sym (refused h));
-    output = subst (λ (f : ℕ). Run-output f t p o o) (sym (refused h)) refl;
-  }
-
-  pub whole-run : (r : ℤ) (n : ℕ) (o′ : List ℕ) → norm t p ≤ length o → Written t p 0 o [] n o′ → r ≡ pos n → ShortestRun t p o r o′
-  unfolding signed norm sum-of
+  pub whole-run : (r : ℤ) (n : ℕ) (o′ : List ℕ) → norm t p ≤ length o → Written t p 0 o [] n o′ → r ≡ pos n → WritesRun t p o r o′
+  unfolding norm sum-of
   whole-run r n o′ h a e =
       let whole : length (a .run) ≡ norm t p = omega (arith, a .falls) in
-      let count : n ≡ norm t p = omega (arith, a .next) in
       record {
-        answer = e ∙ ap pos count ∙ ap (λ (f : ℕ). signed f (norm t p)) (sym (granted h));
-        output = subst (λ (f : ℕ). Run-output f t p o o′) (sym (granted h)) (a .run, a .runs, whole, a .output ∙ put-front (a .run) o);
+        run = a .run;
+        shortest = record { runs = a .runs; count = whole };
+        written = written (a .run) o (omega arith) (e ∙ ap pos (a .next ∙ omega arith)) (a .output);
       }

@@ -1,16 +1,14 @@
 -- Shortest runs of plans: the rules that they choose, the moves written so far, and the answer. Assumes nothing: these are definitions.
 use mathlib.Core.Path.{_≡_}
-use mathlib.Core.Bool.{cond}
-use mathlib.Core.List.{List, [], _++_}
-use Prim.Native.Nat.{ℕ, zero, suc, _+_, _≤_, _<_}
-use lib.Dec.{ltb}
+use mathlib.Core.List.{List, []}
+use Prim.Native.Nat.{ℕ, suc, _+_, _≤_, _<_}
 use lib.IntN.{ℤ}
-use lib.ListN.{length, getD, drop}
+use lib.ListN.{length, getD}
 use Rattle.bpa.specs.Plans.{Table, Runs}
 use Rattle.bpa.specs.Norms.{sum-of, norms, norm, Good}
 use Rattle.rules.specs.Places.{rule-at, rule-count, table-of}
 use Rattle.rules.specs.Lists.{GoodList}
-use Rattle.answer.specs.Answer.{signed}
+use Rattle.answer.specs.Answer.{Writes}
 use Rattle.area.specs.Areas.{put}
 
 -- the rule at a place lowers the norm of a job by one
@@ -34,16 +32,13 @@ pub record Written (t : Table) (from : List ℕ) (at : ℕ) (out : List ℕ) (to
   pub next : r ≡ at + length run
   pub output : out′ ≡ put at run out
 
--- refusal 10 of a run: the output area is shorter than the norm
-unfoldable pub room-refusal : Table → (plan out : List ℕ) → ℕ
-room-refusal t p o = cond (ltb (length o) (norm t p)) 10 0
+-- A SHORTEST RUN of a plan: it leads to the empty plan in as many moves as the norm
+pub record Shortest (t : Table) (p run : List ℕ) : Type 0 where
+  pub runs : Runs t p run []
+  pub count : length run ≡ norm t p
 
--- as many moves as the norm, leading to the empty plan; which ones is free
-abbrev pub Run-output : (refusal : ℕ) → Table → (plan out out′ : List ℕ) → Type 0
-Run-output zero t p o o′ = (run : List ℕ) × Runs t p run [] × (length run ≡ norm t p) × (o′ ≡ run ++ drop (length run) o)
-Run-output (suc n) t p o o′ = o′ ≡ o
-
--- A SHORTEST RUN of an accepted plan
-pub record ShortestRun (t : Table) (p o : List ℕ) (r : ℤ) (o′ : List ℕ) : Type 0 where
-  pub answer : r ≡ signed (room-refusal t p o) (norm t p)
-  pub output : Run-output (room-refusal t p o) t p o o′
+-- the call writes one; which one is free
+pub record WritesRun (t : Table) (p o : List ℕ) (r : ℤ) (o′ : List ℕ) : Type 0 where
+  pub run : List ℕ
+  pub shortest : Shortest t p run
+  pub written : Writes 0 run o r o′

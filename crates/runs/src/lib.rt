@@ -8,7 +8,7 @@ ghost use Rattle.bpa.specs.Plans.{over};
 ghost use Rattle.bpa.specs.Norms.{norms, norm};
 ghost use Rattle.rules.specs.Places.{table-of};
 ghost use Rattle.norm.specs.NormArrays.{GoodNorms};
-ghost use Rattle.runs.specs.Runs.{Lowers, Chosen, Written, ShortestRun};
+ghost use Rattle.runs.specs.Runs.{Lowers, Chosen, Written, WritesRun};
 
 // The rule by which a run goes on from a job: the first in image order that lowers the job's norm by one. No other function
 // chooses.
@@ -26,7 +26,7 @@ fn lowering_rule(jobs: usize, rules: &[u8], norms: &[u16; 24], job: usize) -> us
         if rules::rule_job(rules, at) != job {
             continue;
         }
-        if norm == 1 + refusal::capped_norm(norms, rules::rule_after(rules, at)) {
+        if norm == 1 + norm::capped_sum(norms, rules::rule_after(rules, at)) {
             return at;
         }
     }
@@ -104,9 +104,9 @@ pub fn shortest_run(
     requires { ⌜ GoodNorms jobs (now rules) (now norms) ⌝ }
     requires { ⌜ over (table-of jobs (now rules)) (now plan) ≡ true ⌝ }
     requires { ⌜ norm (table-of jobs (now rules)) (now plan) ≤ 4096 ⌝ }
-    ensures { λ r. ⌜ ShortestRun (table-of jobs (now (rules .entry))) (now (plan .entry)) (now (out .entry)) r (now (out .exit)) ⌝ }
+    ensures { λ r. ⌜ WritesRun (table-of jobs (now (rules .entry))) (now (plan .entry)) (now (out .entry)) r (now (out .exit)) ⌝ }
 {
-    let need = refusal::capped_norm(norms, plan) as usize;
+    let need = norm::capped_sum(norms, plan) as usize;
     if out.len() < need {
         return -10;
     }

@@ -1,4 +1,4 @@
--- Laws of loading an image.
-pub mod Loading
-pub mod LoadingPlans
-pub mod LoadedTable
+-- Laws of tables that a call holds, and of images as a source of them.
+pub mod ListTables
+pub mod ImageTables
+pub mod HeldTables

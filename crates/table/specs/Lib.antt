@@ -1,2 +1,3 @@
--- The table of an image as the calls use it.
-pub mod Loading
+-- Tables as the calls use them.
+pub mod Tables
+pub mod CallRefusals

@@ -1,2 +1,3 @@
 -- Laws of the workspace.
-pub mod Clearing
+pub mod UsablePart
+pub mod WithSpace

@@ -1,21 +1,33 @@
-// The workspace that a call is lent: whether it is long enough, and how it is left.
+// The workspace that a call is lent: whether it is long enough, the part that may be used, and how it is left.
 ghost use mathlib.Core.Path.{_≡_};
-ghost use Prim.Native.Nat.{_≤_};
-ghost use lib.Dec.{ltb};
-ghost use lib.ListN.{length};
-ghost use Rattle.answer.specs.Answer.{space-size, space-after};
+ghost use Rattle.answer.specs.Refusals.{space-refusal};
+ghost use Rattle.answer.specs.Answer.{space-after};
+ghost use Rattle.workspace.specs.Usable as part;
 
-// Refusal 1.
-pub fn too_short(space: &[u8]) -> bool
-    ensures { λ r. ⌜ r ≡ ltb (length (now (space .entry))) space-size ⌝ }
+// How many bytes a call may use: the first 65,536, or none of a workspace that is too short.
+pub fn usable(space: &[u8]) -> usize
+    ensures { λ r. ⌜ r ≡ part.usable (now (space .entry)) ⌝ }
 {
-    space.len() < 65536
+    if space.len() < 65536 {
+        return 0;
+    }
+    65536
 }
 
-// Zeros in the first 65,536 bytes. Later ones are left.
+// Refusal 1, by the workspace or by the part of it that may be used.
+pub fn refusal(space: &[u8]) -> u8
+    ensures { λ r. ⌜ r ≡ space-refusal (now (space .entry)) ⌝ }
+{
+    if usable(space) == 0 {
+        return 1;
+    }
+    0
+}
+
+// Zeros in the part that may be used. Later bytes are left.
 pub fn clear(space: &mut [u8])
-    requires { ⌜ 65536 ≤ length (now space) ⌝ }
     ensures { λ _. ⌜ now (space .exit) ≡ space-after (now (space .entry)) ⌝ }
 {
-    area::put_zeros(0, 65536, space);
+    let end = usable(space);
+    area::put_zeros(0, end, space);
 }

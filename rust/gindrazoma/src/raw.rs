@@ -16,8 +16,8 @@ macro_rules! calls {
     (@ $name:ident $all:tt [$($type:tt)*] [$($value:tt)*] $area:ident: &mut [u8], $($rest:tt)*) => {
         calls! { @ $name $all [$($type)* *mut u8, usize,] [$($value)* $area.as_mut_ptr(), $area.len(),] $($rest)* }
     };
-    (@ $name:ident $all:tt [$($type:tt)*] [$($value:tt)*] $number:ident: u32, $($rest:tt)*) => {
-        calls! { @ $name $all [$($type)* u32,] [$($value)* $number,] $($rest)* }
+    (@ $name:ident $all:tt [$($type:tt)*] [$($value:tt)*] $number:ident: $width:ident, $($rest:tt)*) => {
+        calls! { @ $name $all [$($type)* $width,] [$($value)* $number,] $($rest)* }
     };
     (@ $name:ident [$($parameter:tt)*] [$($type:ty,)*] [$($value:expr,)*]) => {
         #[inline]

@@ -5,11 +5,10 @@ use mir.Facts.{toZ-pos}
 use Rattle.answer.proofs.result.Statement.{statement}
 use Rattle.answer.proofs.result.Tie as tie
 
-cast-result : tie.Need-cast-result
-cast-result c = search needs
-
 returns : tie.Need-returns
 returns c = toZ-pos w32 (c .pre)
 
 pub result-spec : {M : Type 1} → statement M
-result-spec = tie.close (tie.spec cast-result returns)
+result-spec = tie.close (tie.spec
+    (λ c. search needs)  -- cast-result
+    returns)

@@ -74,9 +74,9 @@ module _ (m : ℕ) (one : 1 ≤ m) where
   cap-zeros zero = refl
   cap-zeros (suc n) = ap₂ _∷_ (omega arith) (cap-zeros n)
 
-  pub capped-norms : (t : Table) → map (min m) (norms t) ≡ capped-rounds m (t .jobs) t (replicate (t .jobs) 0)
+  pub capped-sums : (t : Table) → map (min m) (norms t) ≡ capped-rounds m (t .jobs) t (replicate (t .jobs) 0)
   unfolding norms
-  capped-norms t =
+  capped-sums t =
       capped-after (t .jobs) t (replicate (t .jobs) 0) ∙ ap (capped-rounds m (t .jobs) t) (cap-zeros (t .jobs))
 
 -- one more round, at the end instead of at the start
@@ -103,5 +103,5 @@ pub capped-settled : (m : ℕ) → 1 ≤ m → (t : Table) (k l : ℕ) → k + l
     map (min m) (norms t) ≡ capped-rounds m k t (replicate (t .jobs) 0)
 capped-settled m one t k l e h =
     let zs : List ℕ = replicate (t .jobs) 0 in
-    capped-norms m one t ∙ ap (λ (n : ℕ). capped-rounds m n t zs) (sym e) ∙ capped-rest m k l t zs ∙
+    capped-sums m one t ∙ ap (λ (n : ℕ). capped-rounds m n t zs) (sym e) ∙ capped-rest m k l t zs ∙
     capped-stable m l t (capped-rounds m k t zs) h

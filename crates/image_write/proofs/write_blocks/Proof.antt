@@ -7,6 +7,8 @@ use native.Mathlib.Numerals.{add-one}
 use lib.ListN.{length, take, drop, length-append, length-take, length-drop, take-append-drop}
 use lib.Seq.{length-take-le, take-at, drop-drop}
 use borrow.Rule.Slice.PartMut.{putMid, postOf, same-len-mid, drop-put}
+use Rattle.area.specs.Areas.{IsPut}
+use Rattle.area.proofs.PutLaws.{put-front}
 use Rattle.rules.specs.Lists.{GoodList}
 use Rattle.rules.specs.Places.{rule-count}
 use Rattle.image.specs.Writing.{blocks-for, rules-for, written-block, written-from, written}
@@ -107,16 +109,19 @@ module _ (n : ℕ) (rs out₀ : List ℕ) (k : ℕ) (out : List ℕ) (t : State 
             ∙ sym (drop-drop 512 a out) ∙ ap (drop 512) (t .kept) ∙ drop-drop 512 a out₀ ∙ ap (λ m. drop m out₀) (sym end);
       }
 
-  done : blocks rs ≤ k → (512 * blocks rs ≡ length (written n rs)) × (out ≡ written n rs ++ drop (length (written n rs)) out₀)
+  done : blocks rs ≤ k → IsPut 0 (written n rs) out₀ (512 * blocks rs) out
   unfolding rule-count blocks-for
   done h =
       let all = written-size rs (t .fixed .sized) n in
       let end : length (written n rs) ≡ 512 * k = omega arith in
       let whole : take (512 * k) out ≡ written n rs =
-      sym (append-nil (take (512 * k) out)) ∙ ap (λ l. take (512 * k) out ++ l) (sym (no-more n rs (blocks rs) k h)) ∙ t .done in (
-        omega arith,
-        sym (take-append-drop (512 * k) out) ∙ (λ i. whole i ++ t .kept i) ∙ ap (λ m. written n rs ++ drop m out₀) (sym end),
-      )
+      sym (append-nil (take (512 * k) out)) ∙ ap (λ l. take (512 * k) out ++ l) (sym (no-more n rs (blocks rs) k h)) ∙ t .done in
+      record {
+        next = omega arith;
+        output =
+            sym (take-append-drop (512 * k) out) ∙ (λ i. whole i ++ t .kept i) ∙ ap (λ m. written n rs ++ drop m out₀) (sym end)
+            ∙ sym (put-front (written n rs) out₀);
+      }
 
 abbrev Inv-loop : tie.InvT-loop
 Inv-loop jobs rules out₀ blocks k₀ out k = State jobs rules out₀ blocks k out

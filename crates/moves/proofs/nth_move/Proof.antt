@@ -1,7 +1,7 @@
 -- `moves::nth_move` meets its contract. Assumes nothing.
 use mathlib.Core.Path.{_≡_, refl, sym, ap, _∙_, subst}
 use mathlib.Core.Bool.{Bool, cond}
-use mathlib.Core.List.{List, [], _∷_, _++_}
+use mathlib.Core.List.{List, [], _∷_}
 use Prim.Native.Nat.{ℕ, _+_, _-_, _≤_, _<_}
 use native.Mathlib.Omega.{arith}
 use borrow.Author.Needs.{needs}
@@ -15,7 +15,9 @@ use Rattle.bpa.specs.Plans.{moves}
 use Rattle.rules.specs.Places.{rule-at, rule-count, table-of}
 use Rattle.rules.proofs.ListLaws.{good-has-place}
 use Rattle.moves.specs.Moves.{move-bytes, bytes-by, IsNth}
-use Rattle.moves.proofs.Answers.{writes-nothing, writes-refused, writes-bytes, moved}
+use Rattle.area.specs.Areas.{put}
+use Rattle.answer.proofs.Answers.{nothing, too-short, written}
+use Rattle.moves.proofs.MoveByRule.{moved}
 use Rattle.moves.proofs.nth_move.Statement.{statement}
 use Rattle.moves.proofs.nth_move.Tie as tie
 
@@ -48,7 +50,7 @@ returns c =
     let s = c .before .before .before .before in
     let p = s .args .plan .now in
     let e : p ≡ [] = empty p (c .if1 .taken) in
-    writes-nothing _ (s .args .out .now) (ap (λ (l : List ℕ). move-bytes (moves (table-of (s .args .jobs) (s .args .rules .now)) l) (s .args .index)) e)
+    nothing _ (s .args .out .now) (ap (λ (l : List ℕ). move-bytes (moves (table-of (s .args .jobs) (s .args .rules .now)) l) (s .args .index)) e)
 
 shared-slice-read-job : tie.Need-shared-slice-read-job
 shared-slice-read-job c = search needs
@@ -67,7 +69,7 @@ returns-2 c =
     let at-find = c .before .before in
     let s = at-find .before .before .before .before .before .before in
     let h : 0 < length (s .args .plan .now) = omega (arith, at-find .before .before .if1 .left) in
-    writes-nothing _ (s .args .out .now)
+    nothing _ (s .args .out .now)
     (none-found (s .args .jobs) (s .args .rules .now) (s .args .plan .now) (s .args .index) (at-find .find-rule .result) h (at-find .find-rule .ensures)
     (omega (arith, c .before .rule-total .ensures)))
 
@@ -97,7 +99,7 @@ returns-3 c =
     let i = at-find .find-rule .result in
     let h = not-empty (at-len .before) in
     let e = one-found (s .args .jobs) rs p (s .args .index) i h (at-find .find-rule .ensures) (there (at-len .before)) in
-    writes-refused _ (s .args .out .now) (omega (arith, ap length e, bytes-length rs i p h, at-len .rule-len .ensures .is))
+    too-short _ (s .args .out .now) (omega (arith, ap length e, bytes-length rs i p h, at-len .rule-len .ensures .is))
 
 sub-write-move : tie.Need-sub-write-move
 sub-write-move c = search needs
@@ -134,7 +136,7 @@ result-requires c κs =
     let i = at-find .find-rule .result in
     let h = not-empty (at-len .before) in
     let e = ap (λ (l : List ℕ). length (bytes-by rs i l)) (waiting p) in
-    omega (arith, at-write .write-move .ensures .count, e, bytes-length rs i p h, at-len .rule-len .ensures .is, at-len .rule-len .ensures .few, s .pre .1)
+    omega (arith, at-write .write-move .ensures .next, e, bytes-length rs i p h, at-len .rule-len .ensures .is, at-len .rule-len .ensures .few, s .pre .1)
 
 same-length : tie.Need-same-length
 same-length c = search needs
@@ -153,9 +155,9 @@ returns-4 c =
     let e = one-found (s .args .jobs) rs p (s .args .index) i h (at-find .find-rule .ensures) (there (at-len .before)) in
     let w : bytes-by rs i (take (length p - 1) (drop 1 p)) ≡ move-bytes (moves (table-of (s .args .jobs) rs) p) (s .args .index) =
     ap (bytes-by rs i) (waiting p) ∙ sym e in
-    writes-bytes _ o _ _ (omega (arith, ap length e, bytes-length rs i p h, at-len .rule-len .ensures .is, at-write .before .before .before .if3 .left))
-    (toZ-ofZ w32 (c .result .result) (record { sfits = c .result .ok }) ∙ c .result .ensures ∙ ap pos (at-write .write-move .ensures .count ∙ ap length w))
-    (at-write .write-move .ensures .output ∙ ap (λ (l : List ℕ). l ++ drop (length l) o) w)
+    written _ o (omega (arith, ap length e, bytes-length rs i p h, at-len .rule-len .ensures .is, at-write .before .before .before .if3 .left))
+    (toZ-ofZ w32 (c .result .result) (record { sfits = c .result .ok }) ∙ c .result .ensures ∙ ap pos (omega (arith, at-write .write-move .ensures .next, ap length w)))
+    (at-write .write-move .ensures .output ∙ ap (λ (l : List ℕ). put 0 l o) w)
 
 pub nth-move-spec : {M : Type 1} → statement M
 nth-move-spec =

@@ -3,10 +3,10 @@ use mathlib.Core.Path.{_≡_, sym, ap, ap₂, _∙_}
 use mathlib.Core.List.{List, [], _∷_, _++_}
 use Prim.Native.Nat.{ℕ, _+_, _<_}
 use native.Mathlib.Omega.{arith}
-use lib.ListN.{length, drop, set, length-set, length-append}
+use lib.ListN.{length, set, length-set, length-append}
 use Rattle.rules.specs.Places.{rule-at}
 use Rattle.area.specs.Areas.{put}
-use Rattle.area.proofs.PutLaws.{put-one, put-put, put-front}
+use Rattle.area.proofs.PutLaws.{put-one, put-put}
 use Rattle.moves.specs.Moves.{bytes-by}
 use Rattle.moves.proofs.write_move.Statement.{statement}
 use Rattle.moves.proofs.write_move.Tie as tie
@@ -17,12 +17,12 @@ bytes-length rs i w = let e = length-append (rule-at rs i .after) w in omega ari
 
 -- a number, the jobs after it and the jobs that wait, one behind the other
 in-a-row : (m k : ℕ) (w waiting xs ys : List ℕ) → 0 < length xs → k ≡ 1 + length w → ys ≡ put 1 w (set xs 0 m) →
-    put k waiting ys ≡ (m ∷ (w ++ waiting)) ++ drop (length (m ∷ (w ++ waiting))) xs
+    put k waiting ys ≡ put 0 (m ∷ (w ++ waiting)) xs
 in-a-row m k w waiting xs ys h e f =
     let e′ : k ≡ 0 + length (m ∷ w) = omega arith in
     ap₂ (λ (i : ℕ) (l : List ℕ). put i waiting l) e′
     (f ∙ ap (put 1 w) (sym (put-one 0 m xs h)) ∙ put-put 0 (m ∷ []) w xs (omega arith))
-    ∙ put-put 0 (m ∷ w) waiting xs (omega arith) ∙ put-front (m ∷ (w ++ waiting)) xs
+    ∙ put-put 0 (m ∷ w) waiting xs (omega arith)
 
 rule-move-requires : tie.Need-rule-move-requires
 rule-move-requires c κs = c .before .before .before .pre .rule .inside
@@ -78,9 +78,9 @@ returns c =
     let w = s .args .waiting .now in
     let h : 0 < length (s .args .out .now) = omega (arith, s .pre .room, bytes-length rs i w) in
     record {
-      count = l .ensures .next ∙ omega (arith, k .ensures .next, ap length (f .ensures), bytes-length rs i w);
+      next = l .ensures .next ∙ omega (arith, k .ensures .next, ap length (f .ensures), bytes-length rs i w);
       output = l .ensures .output ∙ in-a-row (m .result) (k .result) (f .result .now) w (s .args .out .now) (k .last .0) h (k .ensures .next) (k .ensures .output)
-          ∙ ap₂ (λ (x : ℕ) (y : List ℕ). (x ∷ (y ++ w)) ++ drop (length (x ∷ (y ++ w))) (s .args .out .now)) (m .ensures .is) (f .ensures);
+          ∙ ap₂ (λ (x : ℕ) (y : List ℕ). put 0 (x ∷ (y ++ w)) (s .args .out .now)) (m .ensures .is) (f .ensures);
     }
 
 pub write-move-spec : {M : Type 1} → statement M

@@ -1,74 +1,62 @@
 -- `plans::shortest_run` meets its contract. Assumes nothing.
 use mathlib.Core.Path.{_∙_}
-use native.Mathlib.Nat.{sub-zero}
-use native.Mathlib.Omega.{arith}
+use mathlib.Core.List.{[]}
 use borrow.Author.Needs.{needs}
 use mir.Syntax.{w32}
 use mir.ValLaws.{toZ-ofZ}
-use Rattle.plans.proofs.Loaded.{run-refused, loaded, plan-over, plan-small, run-given}
+use Rattle.answer.proofs.Answers.{writes-refused, writes-done}
+use Rattle.table.proofs.HeldTables.{plan-chain, plan-ready}
 use Rattle.plans.proofs.shortest_run.Statement.{statement}
 use Rattle.plans.proofs.shortest_run.Tie as tie
 
-load-with-requires : tie.Need-load-with-requires
-load-with-requires c κs = search needs
-
-refused-requires : tie.Need-refused-requires
-refused-requires c κs = search needs
-
 returns : tie.Need-returns
 returns c =
-    let e = c .before in
-    let l = e .before .load-with in
-    let a = e .before .before .before .before .before .args in
-    run-refused (a .image .now) (a .plan .now) (l .result .refusal) (l .result .jobs) (l .result .count) (l .result .rules) (l .result .norms) (l .ensures) (a .out .now) _ (e .if1 .taken) (λ v. toZ-ofZ w32 (c .refused .result) (record { sfits = c .refused .ok }) ∙ c .refused .ensures v)
-
-mul-end : tie.Need-mul-end
-mul-end c =
-    let e = c .before .before .before in
-    omega (arith, e .before .load-with .ensures .table (e .if1 .left) .few)
-
-sub-shortest-run : tie.Need-sub-shortest-run
-sub-shortest-run c = search needs
-
-part-shortest-run-start : tie.Need-part-shortest-run-start
-part-shortest-run-start c = search needs
-
-part-shortest-run-end : tie.Need-part-shortest-run-end
-part-shortest-run-end c =
-    let e = c .before .before .before .before in
-    let t = e .before .load-with .ensures .table (e .if1 .left) in
-    omega (arith, t .size, t .few)
+    let o = c .before .before in
+    let l = o .before .before .before .before in
+    let p = l .before .before .before .before .args .plan .now in
+    let e = plan-chain (l .load .ensures) p (o .before .plan-refusal .ensures) (o .or-else .ensures) in
+    record {
+      run = [];
+      shortest = λ z. absurd (c .before .if1 .taken (e ∙ z));
+      written = writes-refused e (c .before .if1 .taken) (toZ-ofZ w32 (c .refused .result) (record { sfits = c .refused .ok }) ∙ c .refused .ensures);
+    }
 
 shortest-run-requires : tie.Need-shortest-run-requires
 shortest-run-requires c κs =
-    let e = c .before .before .before .before .before .before .before in
-    let l = e .before .load-with in
-    let a = e .before .before .before .before .before .args in
-    rw sub-zero (loaded (a .image .now) (a .plan .now) (l .result .refusal) (l .result .jobs) (l .result .count) (l .result .rules) (l .result .norms) (l .ensures) (e .if1 .left), (plan-over (a .image .now) (a .plan .now) (l .result .refusal) (l .result .jobs) (l .result .count) (l .result .rules) (l .result .norms) (l .ensures) (e .if1 .left), plan-small (a .image .now) (a .plan .now) (l .result .refusal) (l .result .jobs) (l .result .count) (l .result .rules) (l .result .norms) (l .ensures) (e .if1 .left)))
-
-same-length : tie.Need-same-length
-same-length c = search needs
+    let e = c .before .before .before .before .before .before in
+    let o = e .before in
+    let l = o .before .before .before .before in
+    let p = l .before .before .before .before .args .plan .now in
+    let k = plan-ready (l .load .ensures) p (o .before .plan-refusal .ensures) (o .or-else .ensures) (e .if1 .left) in
+    rw (c .before .before .rules-of .ensures) (k .good, (k .over-table, k .norm-small))
 
 returns-2 : tie.Need-returns-2
 returns-2 c =
-    let e = c .before .before .before .before .before .before .before .before .before .before in
-    let l = e .before .load-with in
-    let a = e .before .before .before .before .before .args in
-    let m = c .before .before .shortest-run in
-    run-given (a .image .now) (a .plan .now) (l .result .refusal) (l .result .jobs) (l .result .count) (l .result .rules) (l .result .norms) (l .ensures) (e .if1 .left) (a .out .now) _ (m .last .1 .1 .1 .1 .0)
-    (rw (toZ-ofZ w32 (m .result) (record { sfits = m .ok })) (rw sub-zero at (m .ensures)))
+    let m = c .before .before in
+    let e = m .before .before .before .before .before .before .before in
+    let o = e .before in
+    let l = o .before .before .before .before in
+    let p = l .before .before .before .before .args .plan .now in
+    let k = plan-ready (l .load .ensures) p (o .before .plan-refusal .ensures) (o .or-else .ensures) (e .if1 .left) in
+    let w = rw (m .before .before .before .rules-of .ensures, k .is) at (m .shortest-run .ensures) in
+    record {
+      run = w .run;
+      shortest = λ z. w .shortest;
+      written =
+          writes-done (plan-chain (l .load .ensures) p (o .before .plan-refusal .ensures) (o .or-else .ensures)) (e .if1 .left)
+          (rw (toZ-ofZ w32 (m .shortest-run .result) (record { sfits = m .shortest-run .ok })) (w .written));
+    }
 
 pub shortest-run-spec : {M : Type 1} → statement M
 shortest-run-spec =
     tie.close
     (tie.spec
-    load-with-requires
-    refused-requires
+    (λ c κs. search needs)  -- load-requires
+    (λ c κs. search needs)  -- plan-refusal-requires
+    (λ c κs. search needs)  -- or-else-requires
+    (λ c κs. search needs)  -- refused-requires
     returns
-    mul-end
-    sub-shortest-run
-    part-shortest-run-start
-    part-shortest-run-end
+    (λ c κs. search needs)  -- rules-of-requires
     shortest-run-requires
-    same-length
+    (λ c. search needs)  -- same-length
     returns-2)

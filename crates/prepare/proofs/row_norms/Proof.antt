@@ -1,5 +1,5 @@
 -- `row_norms` meets its contract: each place passed holds the norm of its rule. Assumes nothing.
-use mathlib.Core.Path.{_≡_, refl, sym, subst}
+use mathlib.Core.Path.{_≡_, refl, subst}
 use mathlib.Core.Bool.{true}
 use mathlib.Core.List.{List}
 use Prim.Native.Nat.{ℕ, _-_, _≤_, _<_}
@@ -7,7 +7,7 @@ use native.Mathlib.Omega.{arith}
 use lib.ListN.{length, getD, length-set}
 use borrow.Author.Needs.{needs}
 use Rattle.bpa.specs.Plans.{all-below}
-use Rattle.bpa.proofs.Basics.JobsBelow.{below-at}
+use Rattle.bpa.proofs.Basics.JobsBelow.{below-at, below-more}
 use Rattle.rules.specs.Places.{rule-count, rule-at}
 use Rattle.rules.specs.Lists.{GoodList}
 use Rattle.rules.proofs.ListLaws.{good-rule, good-has-place}
@@ -57,12 +57,11 @@ row-norm-requires c κs =
     let g = good-rule n (rs d) (good d) (d .before .loop .i) (inside d) in
     let e = c .rule-after .ensures in
     let row = c .rule-after .result .now in
-    let below : (k : ℕ) → k < length row → getD row k 0 < n =
-    λ k h. below-at n row k (subst (λ (l : List ℕ). all-below n l ≡ true) (sym e) (g .after)) h in
+    let below : all-below n row ≡ true = rw e (g .after) in
     record {
-      few = subst (λ (l : List ℕ). length l ≤ 4) (sym e) (g .few);
-      below = λ k h. omega (arith, below k h, good d .jobs);
-      most = λ k h. start d .pre .1 .small (getD row k 0) (below k h);
+      few = rw e (g .few);
+      below = below-more n 24 row (good d .jobs) below;
+      most = λ k h. start d .pre .1 .small (getD row k 0) (below-at n row k below h);
     }
 
 mul-out : tie.Need-mul-out Inv-loop μ-loop

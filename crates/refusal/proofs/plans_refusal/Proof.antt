@@ -1,63 +1,50 @@
 -- `refusal::plans_refusal` meets its contract. Assumes nothing.
-use mathlib.Core.Path.{sym, _∙_}
+use mathlib.Core.Path.{sym, ap₂, _∙_}
 use borrow.Author.Needs.{needs}
-use Rattle.refusal.proofs.Chains.{refused-first, passed-first, jobs-within}
+use Rattle.answer.specs.Refusals.{or-else}
+use Rattle.answer.proofs.RefusalChains.{stops, goes-on}
+use Rattle.refusal.proofs.PlanRefusals.{jobs-within}
 use Rattle.refusal.proofs.plans_refusal.Statement.{statement}
 use Rattle.refusal.proofs.plans_refusal.Tie as tie
 
-refuse-jobs-requires : tie.Need-refuse-jobs-requires
-refuse-jobs-requires c κs = search needs
-
 returns : tie.Need-returns
-returns c = refused-first _ _ (c .before .refuse-jobs .result) (c .before .refuse-jobs .ensures) (c .if1 .taken)
-
-refuse-jobs-requires-2 : tie.Need-refuse-jobs-requires-2
-refuse-jobs-requires-2 c κs = search needs
+returns c = stops _ (c .before .jobs-refusal .ensures) (c .if1 .taken)
 
 returns-2 : tie.Need-returns-2
 returns-2 c =
-    let f = c .before .before .before .refuse-jobs in
-    refused-first _ _ (c .before .refuse-jobs2 .result) (c .before .refuse-jobs2 .ensures) (c .if2 .taken)
-    ∙ sym (passed-first _ _ (f .result) (f .ensures) (c .before .before .if1 .left))
+    let e = c .before .before in
+    goes-on (e .before .jobs-refusal .ensures) (e .if1 .left) (stops _ (c .before .jobs-refusal2 .ensures) (c .if2 .taken))
 
-refuse-norm-requires : tie.Need-refuse-norm-requires
-refuse-norm-requires c κs =
-    let s = c .before .before .before .before .before .before in
-    let f = c .before .before .before .refuse-jobs in
-    jobs-within (s .args .jobs) (s .args .left .now) (f .result) (s .pre) (f .ensures) (c .before .before .if1 .left)
+norm-refusal-requires : tie.Need-norm-refusal-requires
+norm-refusal-requires c κs =
+    let e = c .before .before in
+    let s = e .before .before .before .before in
+    jobs-within (s .args .jobs) (s .args .left .now) (s .pre) (sym (e .before .jobs-refusal .ensures) ∙ e .if1 .left)
+
+norm-refusal-requires-2 : tie.Need-norm-refusal-requires-2
+norm-refusal-requires-2 c κs =
+    let d = c .before in
+    let s = d .before .before .before .before .before .before in
+    jobs-within (s .args .jobs) (s .args .right .now) (s .pre) (sym (d .before .jobs-refusal2 .ensures) ∙ d .if2 .left)
 
 returns-3 : tie.Need-returns-3
 returns-3 c =
-    let f = c .before .before .before .before .before .refuse-jobs in
-    let g = c .before .before .before .refuse-jobs2 in
-    refused-first _ _ (c .before .refuse-norm .result) (c .before .refuse-norm .ensures) (c .if3 .taken)
-    ∙ sym (passed-first _ _ (g .result) (g .ensures) (c .before .before .if2 .left))
-    ∙ sym (passed-first _ _ (f .result) (f .ensures) (c .before .before .before .before .if1 .left))
-
-refuse-norm-requires-2 : tie.Need-refuse-norm-requires-2
-refuse-norm-requires-2 c κs =
-    let s = c .before .before .before .before .before .before .before .before in
-    let g = c .before .before .before .refuse-jobs2 in
-    jobs-within (s .args .jobs) (s .args .right .now) (g .result) (s .pre) (g .ensures) (c .before .before .if2 .left)
-
-returns-4 : tie.Need-returns-4
-returns-4 c =
-    let f = c .before .before .before .before .before .before .refuse-jobs in
-    let g = c .before .before .before .before .refuse-jobs2 in
-    let h = c .before .before .refuse-norm in
-    c .refuse-norm2 .ensures ∙ sym (passed-first _ _ (h .result) (h .ensures) (c .before .if3 .left))
-    ∙ sym (passed-first _ _ (g .result) (g .ensures) (c .before .before .before .if2 .left))
-    ∙ sym (passed-first _ _ (f .result) (f .ensures) (c .before .before .before .before .before .if1 .left))
+    let l = c .before .before in
+    let d = l .before in
+    let e = d .before .before in
+    goes-on (e .before .jobs-refusal .ensures) (e .if1 .left)
+    (goes-on (d .before .jobs-refusal2 .ensures) (d .if2 .left)
+    (c .or-else .ensures ∙ ap₂ or-else (l .norm-refusal .ensures) (c .before .norm-refusal2 .ensures)))
 
 pub plans-refusal-spec : {M : Type 1} → statement M
 plans-refusal-spec =
     tie.close
     (tie.spec
-    refuse-jobs-requires
+    (λ c κs. search needs)  -- jobs-refusal-requires
     returns
-    refuse-jobs-requires-2
+    (λ c κs. search needs)  -- jobs-refusal-requires-2
     returns-2
-    refuse-norm-requires
-    returns-3
-    refuse-norm-requires-2
-    returns-4)
+    norm-refusal-requires
+    norm-refusal-requires-2
+    (λ c κs. search needs)  -- or-else-requires
+    returns-3)

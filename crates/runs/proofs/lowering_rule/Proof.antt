@@ -55,8 +55,8 @@ rule-after-requires c κs =
     let s = at-loop .before .before .before .before in
     good-has-place (s .args .jobs) (s .args .rules .now) (s .pre .0 .list) (at-loop .loop .i) (there (c .before .before))
 
-capped-norm-requires : tie.Need-capped-norm-requires Inv-loop μ-loop
-capped-norm-requires c κs =
+capped-sum-requires : tie.Need-capped-sum-requires Inv-loop μ-loop
+capped-sum-requires c κs =
     let at-loop = c .before .before .before .before in
     let s = at-loop .before .before .before .before in
     let g = s .pre .0 .list in
@@ -64,7 +64,7 @@ capped-norm-requires c κs =
     (jobs.below-more (s .args .jobs) 24 _ (g .jobs) (good-rule (s .args .jobs) (s .args .rules .now) g (at-loop .loop .i) (there (c .before .before .before)) .after))
 
 add-if2 : tie.Need-add-if2 Inv-loop μ-loop
-add-if2 c = omega (arith, c .capped-norm .ensures)
+add-if2 c = omega (arith, c .capped-sum .ensures)
 
 returns : tie.Need-returns Inv-loop μ-loop
 returns c =
@@ -75,7 +75,7 @@ returns c =
     record {
       place = there (at-job .before);
       job = sym (at-job .rule-job .ensures .is) ∙ c .before .before .before .if1 .left;
-      falls = omega (arith, e, c .if2 .taken, c .before .capped-norm .ensures, at-loop .before .before .norm-of .ensures .is, s .pre .0 .exact .few (s .args .job));
+      falls = omega (arith, e, c .if2 .taken, c .before .capped-sum .ensures, at-loop .before .before .norm-of .ensures .is, s .pre .0 .exact .few (s .args .job));
     }
 
 loop-less-2 : tie.Need-loop-less-2 Inv-loop μ-loop
@@ -89,7 +89,7 @@ loop-again-2 c =
     let e = ap (sum-of (s .args .norms .now)) (c .before .before .rule-after .ensures) in (
       omega arith,
       below-more _ _ (at-loop .loop .inv .1)
-          (λ l. c .if2 .left (omega (arith, e, l .falls, c .before .capped-norm .ensures, at-loop .before .before .norm-of .ensures .is, s .pre .0 .exact .few (s .args .job)))),
+          (λ l. c .if2 .left (omega (arith, e, l .falls, c .before .capped-sum .ensures, at-loop .before .before .norm-of .ensures .is, s .pre .0 .exact .few (s .args .job)))),
     )
 
 returns-2 : tie.Need-returns-2 Inv-loop μ-loop
@@ -114,7 +114,7 @@ lowering-rule-spec =
     loop-less
     loop-again
     rule-after-requires
-    capped-norm-requires
+    capped-sum-requires
     add-if2
     returns
     loop-less-2

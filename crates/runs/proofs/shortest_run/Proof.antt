@@ -8,14 +8,14 @@ use Rattle.bpa.specs.Plans.{over}
 use Rattle.bpa.specs.Norms.{norm}
 use Rattle.rules.specs.Places.{table-of}
 use Rattle.bpa.proofs.Basics.JobsBelow.{below-more}
-use Rattle.refusal.proofs.Plans.{array-norm}
-use Rattle.runs.proofs.PlanRun.{too-short, whole-run}
+use Rattle.refusal.proofs.PlanRefusals.{array-norm}
+use Rattle.runs.proofs.PlanRun.{no-room, whole-run}
 use Rattle.runs.proofs.shortest_run.Statement.{statement}
 use Rattle.runs.proofs.shortest_run.Tie as tie
 
-capped-norm-requires : tie.Need-capped-norm-requires
+capped-sum-requires : tie.Need-capped-sum-requires
 unfolding over table-of
-capped-norm-requires c κs =
+capped-sum-requires c κs =
     let s = c .before .before .before in
     below-more (s .args .jobs) 24 (s .args .plan .now) (s .pre .0 .list .jobs) (s .pre .1 .0)
 
@@ -23,17 +23,17 @@ cast-need : tie.Need-cast-need
 cast-need c = search needs
 
 -- the bytes that are needed
-need : (c : tie.After-capped-norm) →
-    c .capped-norm .result ≡ norm (table-of (c .before .before .before .before .args .jobs) (c .before .before .before .before .args .rules .now)) (c .before .before .before .before .args .plan .now)
+need : (c : tie.After-capped-sum) →
+    c .capped-sum .result ≡ norm (table-of (c .before .before .before .before .args .jobs) (c .before .before .before .before .args .rules .now)) (c .before .before .before .before .args .plan .now)
 need c =
     let s = c .before .before .before .before in
     let e = array-norm (table-of (s .args .jobs) (s .args .rules .now)) (s .args .norms .now) (s .pre .0 .exact) (s .args .plan .now) in
-    omega (arith, c .capped-norm .ensures, s .pre .1 .1)
+    omega (arith, c .capped-sum .ensures, s .pre .1 .1)
 
 returns : tie.Need-returns
 returns c =
     let s = c .before .before .before .before .before in
-    too-short (table-of (s .args .jobs) (s .args .rules .now)) (s .args .plan .now) (s .args .out .now) (omega (arith, need (c .before), c .if1 .taken))
+    no-room (table-of (s .args .jobs) (s .args .rules .now)) (s .args .plan .now) (s .args .out .now) (s .pre .0 .good) (s .pre .1 .0) (omega (arith, need (c .before), c .if1 .taken))
 
 choices-requires : tie.Need-choices-requires
 choices-requires c κs = search needs
@@ -65,7 +65,7 @@ pub shortest-run-spec : {M : Type 1} → statement M
 shortest-run-spec =
     tie.close
     (tie.spec
-    capped-norm-requires
+    capped-sum-requires
     cast-need
     returns
     choices-requires

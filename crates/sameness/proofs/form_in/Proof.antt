@@ -1,100 +1,91 @@
 -- `sameness::form_in` meets its contract. Assumes nothing.
-use mathlib.Core.Path.{_∙_}
-use native.Mathlib.Nat.{sub-zero}
+use mathlib.Core.Path.{_≡_, _∙_}
+use mathlib.Core.List.{List}
+use Prim.Native.Nat.{ℕ, _≤_}
 use native.Mathlib.Omega.{arith}
 use borrow.Author.Needs.{needs}
+use lib.ListN.{length, take, length-take}
 use mir.Syntax.{w32}
 use mir.ValLaws.{toZ-ofZ}
-use lib.ListN.{length-take}
-use Rattle.table.specs.Loading.{HoldsAccepted}
-use Rattle.table.proofs.LoadedTable.{good-norms}
-use Rattle.sameness.proofs.Loaded.{form-refused, plan-within, plan-small, form-given}
+use Rattle.answer.specs.Answer.{with-space}
+use Rattle.answer.proofs.Answers.{writes-refused, writes-done}
+use Rattle.image.specs.Image.{table-in}
+use Rattle.table.specs.CallRefusals.{one-plan}
+use Rattle.table.proofs.HeldTables.{Ready, plan-chain, plan-ready}
+use Rattle.workspace.proofs.WithSpace.{space-chain, space-passed}
 use Rattle.sameness.proofs.form_in.Statement.{statement}
 use Rattle.sameness.proofs.form_in.Tie as tie
 
--- past the test the table is there
-table : (c : tie.Else1) →
-    let l = c .before .load-with .result in
-    HoldsAccepted (c .before .before .before .before .before .before .args .image .now) (l .jobs) (l .count) (l .rules) (l .norms)
-table c = c .before .load-with .ensures .table (c .if1 .left)
+-- once all checks are made
+module _ (c : tie.After-or-else2) where
+  abbrev loaded : tie.After-load
+  loaded = c .before .before .before .before .before .before .before
 
-load-with-requires : tie.Need-load-with-requires
-load-with-requires c κs = search needs
+  abbrev start : tie.Start
+  start = loaded .before .before .before .before .before
 
-refused-requires : tie.Need-refused-requires
-refused-requires c κs = search needs
+  abbrev checked : tie.After-plan-refusal
+  checked = c .before .before .before .before
+
+  abbrev bs : List ℕ
+  bs = start .args .image .now
+
+  abbrev p : List ℕ
+  p = start .args .plan .now
+
+  refusal-is : c .or-else2 .result ≡ with-space (start .args .area .now) (one-plan bs p)
+  refusal-is =
+      space-chain (start .args .area .now) (c .before .before .refusal .ensures) (c .or-else2 .ensures)
+      (plan-chain (loaded .load .ensures) p (checked .plan-refusal .ensures) (c .before .or-else .ensures))
+
+  module _ (z : c .or-else2 .result ≡ 0) where
+    passed : (65536 ≤ length (start .args .area .now)) × (c .before .or-else .result ≡ 0)
+    passed = space-passed (start .args .area .now) (c .before .before .refusal .ensures) (c .or-else2 .ensures) z
+
+    ready : let l = loaded .load .result in Ready (table-in bs) (l .jobs) (take (l .end) (l .rules)) (l .norms) p
+    ready = plan-ready (loaded .load .ensures) p (checked .plan-refusal .ensures) (c .before .or-else .ensures) (passed .1)
 
 returns : tie.Need-returns
 returns c =
-    form-refused _ _ _ _ _ _ _ (c .before .before .load-with .ensures) (c .before .if1 .taken) _ _
-    (λ v. toZ-ofZ w32 (c .refused .result) (record { sfits = c .refused .ok }) ∙ c .refused .ensures v)
-
-mul-end : tie.Need-mul-end
-mul-end c = omega (arith, table (c .before .before .before) .few)
-
-sub-form : tie.Need-sub-form
-sub-form c = search needs
-
-part-form-start : tie.Need-part-form-start
-part-form-start c = search needs
+    writes-refused (refusal-is (c .before .before)) (c .before .if1 .taken)
+    (toZ-ofZ w32 (c .refused .result) (record { sfits = c .refused .ok }) ∙ c .refused .ensures)
 
 part-form-end : tie.Need-part-form-end
 part-form-end c =
-    let t = table (c .before .before .before .before) in
-    omega (arith, t .size, t .few)
-
-sub-form-2 : tie.Need-sub-form-2
-sub-form-2 c = search needs
-
-part-form-start-2 : tie.Need-part-form-start-2
-part-form-start-2 c = search needs
-
-part-form-end-2 : tie.Need-part-form-end-2
-part-form-end-2 c = search needs
+    let e = c .before .before .before .before .before .before in
+    omega (arith, passed (e .before) (e .if1 .left) .0)
 
 form-requires : tie.Need-form-requires
 form-requires c κs =
-    let e = c .before .before .before .before .before .before .before .before in
-    let l = e .before .load-with .ensures in
-    let s = c .before .before .before .before .before .before .before .before .before .before .before .before .before .before in (
-      rw sub-zero (good-norms _ _ _ _ _ (table e)),
-      (
-        plan-within _ _ _ _ _ _ _ l (e .if1 .left),
-        (
-          plan-small _ _ _ _ _ _ _ l (e .if1 .left),
-          simp length-take (omega (arith, s .pre)),
-        ),
-      ),
-    )
-
-same-length : tie.Need-same-length
-same-length c = search needs
-
-same-length-2 : tie.Need-same-length-2
-same-length-2 c = search needs
+    let e = c .before .before .before .before .before .before .before in
+    let k = ready (e .before) (e .if1 .left) in
+    (rw (c .before .before .before .rules-of .ensures) (k .good), (k .within, (k .sum-small, simp length-take (omega (arith, passed (e .before) (e .if1 .left) .0)))))
 
 returns-2 : tie.Need-returns-2
 returns-2 c =
-    let e = c .before .before .before .before .before .before .before .before .before .before .before .before .before in
-    let w = c .before .before .before .before in
-    form-given _ _ _ _ _ _ _ (e .before .load-with .ensures) (e .if1 .left) _ _ _
-    (rw (toZ-ofZ w32 (w .form .result) (record { sfits = w .form .ok })) (rw sub-zero at (w .form .ensures)))
+    let f = c .before .before .before .before in
+    let e = f .before .before .before .before .before .before .before .before in
+    let k = ready (e .before) (e .if1 .left) in
+    writes-done (refusal-is (e .before)) (e .if1 .left)
+    (rw (toZ-ofZ w32 (f .form .result) (record { sfits = f .form .ok })) (rw (f .before .before .before .before .rules-of .ensures, k .is) at (f .form .ensures)))
 
 pub form-in-spec : {M : Type 1} → statement M
 form-in-spec =
     tie.close
     (tie.spec
-    load-with-requires
-    refused-requires
+    (λ c κs. search needs)  -- load-requires
+    (λ c κs. search needs)  -- plan-refusal-requires
+    (λ c κs. search needs)  -- refusal-requires
+    (λ c κs. search needs)  -- or-else-requires
+    (λ c κs. search needs)  -- or-else-requires-2
+    (λ c κs. search needs)  -- refused-requires
+    (λ c. search needs)  -- same-length
     returns
-    mul-end
-    sub-form
-    part-form-start
+    (λ c κs. search needs)  -- rules-of-requires
+    (λ c. search needs)  -- sub-form
+    (λ c. search needs)  -- part-form-start
     part-form-end
-    sub-form-2
-    part-form-start-2
-    part-form-end-2
     form-requires
-    same-length
-    same-length-2
+    (λ c. search needs)  -- same-length-2
+    (λ c. search needs)  -- same-length-3
     returns-2)

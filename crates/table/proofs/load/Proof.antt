@@ -1,61 +1,31 @@
 -- `table::load` meets its contract. Assumes nothing.
-use mathlib.Core.Path.{sym, _∙_}
-use native.Mathlib.Nat.{sub-zero}
+use mathlib.Core.Path.{_≡_, refl, sym, _∙_}
 use borrow.Author.Needs.{needs}
-use Rattle.table.proofs.Loading.{load-refused, read-list, load-accepted}
+use Rattle.image.specs.Image.{layout-refusal}
+use Rattle.table.proofs.ImageTables.{layout-refused, image-rules, image-loads}
 use Rattle.table.proofs.load.Statement.{statement}
 use Rattle.table.proofs.load.Tie as tie
 
-layout-refusal-requires : tie.Need-layout-refusal-requires
-layout-refusal-requires c κs = search needs
+-- past the test the layout is good
+passed : (c : tie.Else1) → layout-refusal (c .before .before .before .args .image .now) ≡ 0
+passed c = sym (c .before .layout-refusal .ensures) ∙ c .if1 .left
 
 returns : tie.Need-returns
-returns c = load-refused _ _ _ _ _ _ (c .before .layout-refusal .ensures) (c .if1 .taken)
+returns c = layout-refused (c .before .before .before .args .image .now) _ _ (c .before .layout-refusal .ensures) (c .if1 .taken) refl
 
-read-requires : tie.Need-read-requires
-read-requires c κs = search needs
-
-mul-end : tie.Need-mul-end
-mul-end c = search needs
-
-sub-norms : tie.Need-sub-norms
-sub-norms c = search needs
-
-part-norms-start : tie.Need-part-norms-start
-part-norms-start c = search needs
-
-part-norms-end : tie.Need-part-norms-end
-part-norms-end c = search needs
-
-norms-requires : tie.Need-norms-requires
-norms-requires c κs =
-    let r = c .before .before .before .read in
-    let s = c .before .before .before .before in
-    rw sub-zero (read-list _ (sym (s .before .layout-refusal .ensures) ∙ s .if1 .left) (r .result .jobs) (r .result .count) (r .result .rules) (r .ensures))
-
-table-refusal-requires : tie.Need-table-refusal-requires
-table-refusal-requires c κs = search needs
+with-norms-requires : tie.Need-with-norms-requires
+with-norms-requires c κs = let r = c .before .before in image-rules _ (passed (r .before)) (r .read .ensures)
 
 returns-2 : tie.Need-returns-2
-returns-2 c =
-    let n = c .before .before .norms in
-    let at-read = c .before .before .before .before .before .before in
-    let r = at-read .read in
-    let s = at-read .before in
-    load-accepted _ (sym (s .before .layout-refusal .ensures) ∙ s .if1 .left) (r .result .jobs) (r .result .count) (r .result .rules) (n .result) (r .ensures) (c .table-refusal .result)
-    (rw sub-zero at (n .ensures)) (c .table-refusal .ensures)
+returns-2 c = let r = c .before .before .before in image-loads _ (passed (r .before)) (r .read .ensures) (c .with-norms .ensures)
 
 pub load-spec : {M : Type 1} → statement M
 load-spec =
     tie.close
     (tie.spec
-    layout-refusal-requires
+    (λ c κs. search needs)  -- layout-refusal-requires
     returns
-    read-requires
-    mul-end
-    sub-norms
-    part-norms-start
-    part-norms-end
-    norms-requires
-    table-refusal-requires
+    (λ c κs. search needs)  -- read-requires
+    (λ c. search needs)  -- mul-with-norms
+    with-norms-requires
     returns-2)

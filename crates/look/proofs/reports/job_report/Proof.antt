@@ -10,20 +10,21 @@ use mir.Syntax.{w32}
 use mir.ValLaws.{toZ-ofZ}
 use Rattle.bpa.specs.Method.{prime-form}
 use Rattle.image.specs.Image.{table-in}
-use Rattle.answer.specs.Answer.{Writes}
-use Rattle.entries.specs.Entries.{one-refusal, norm-answer}
+use Rattle.answer.specs.Answer.{signed, Writes}
+use Rattle.bpa.specs.Norms.{norm}
+use Rattle.table.specs.CallRefusals.{one-plan}
 use Rattle.look.specs.Numbers.{result-in}
 use Rattle.look.specs.Lines.{job-line}
 use Rattle.look.proofs.Puts.{put-as}
-use Rattle.look.proofs.JobAnswers.{formed, result-within, norm-shown, form-shown}
+use Rattle.look.proofs.JobAnswers.{written, result-within, norm-shown, form-shown}
 use Rattle.look.proofs.reports.job_report.Statement.{statement}
 use Rattle.look.proofs.reports.job_report.Tie as tie
 
-written : (c : tie.After-prime-form) →
+form-written : (c : tie.After-prime-form) →
     let s = c .before .before .before .before .before .before .before .before in
     let p = s .args .job ∷ [] in
-    Writes (one-refusal (s .args .image .now) p) (prime-form (table-in (s .args .image .now)) p) (replicate 512 0) (c .prime-form .result) (c .prime-form .last .1 .1 .0)
-written c = formed _ _ _ _ _ _ _ (c .prime-form .ensures) (search needs)
+    Writes (one-plan (s .args .image .now) p) (prime-form (table-in (s .args .image .now)) p) (replicate 512 0) (c .prime-form .result) (c .prime-form .last .1 .1 .0)
+form-written c = written _ (search needs) _ (c .prime-form .ensures)
 
 -- the size that the code takes of the form
 size-is : (c : tie.After-result-in) → c .result-in .result ≡ result-in (c .before .before .before .prime-form .result)
@@ -32,9 +33,12 @@ size-is c =
     c .result-in .ensures ∙ ap result-in (toZ-ofZ w32 (f .result) (record { sfits = f .ok }))
 
 size-fits : (c : tie.After-result-in) → c .result-in .result ≤ 512
-size-fits c = omega (arith, size-is c, result-within _ _ _ _ _ (written (c .before .before .before)), length-replicate {A = ℕ} 512 0)
+size-fits c = omega (arith, size-is c, result-within _ _ _ _ _ (form-written (c .before .before .before)), length-replicate {A = ℕ} 512 0)
 
-norm-is : (c : tie.After-result-in2) → c .result-in2 .result ≡ result-in (norm-answer (c .before .before .before .before .before .before .before .before .before .before .before .before .args .image .now) (c .before .before .before .before .before .before .before .before .before .before .before .before .args .job ∷ []))
+norm-is : (c : tie.After-result-in2) →
+    let s = c .before .before .before .before .before .before .before .before .before .before .before .before in
+    let p = s .args .job ∷ [] in
+    c .result-in2 .result ≡ result-in (signed (one-plan (s .args .image .now) p) (norm (table-in (s .args .image .now)) p))
 norm-is c =
     let n = c .before .before .before .before .before .before .before .before .plan-norm in
     c .result-in2 .ensures ∙ ap result-in (toZ-ofZ w32 (n .result) (record { sfits = n .ok }) ∙ n .ensures)
@@ -93,7 +97,7 @@ returns c =
           put-as
           (ap₂ (job-line (s .args .job)) (norm-is (c .before .before .before .before .before .before) ∙ norm-shown (s .args .image .now) (s .args .job) a h)
           (ap (λ (k : ℕ). take k (r .before .before .before .prime-form .last .1 .1 .0)) (sub-zero (r .result-in .result) ∙ size-is r)
-          ∙ form-shown (s .args .image .now) (s .args .job) a h (replicate 512 0) _ _ (length-replicate {A = ℕ} 512 0) (written (r .before .before .before))))
+          ∙ form-shown (s .args .image .now) (s .args .job) a h (replicate 512 0) _ _ (length-replicate {A = ℕ} 512 0) (form-written (r .before .before .before))))
           (l .ensures .put);
     }
 

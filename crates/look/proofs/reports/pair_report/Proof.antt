@@ -4,7 +4,7 @@ use lib.IntN.{ℤ}
 use mir.Syntax.{w32}
 use mir.ValLaws.{toZ-ofZ}
 use Rattle.look.specs.Lines.{IsLine, pair-line}
-use Rattle.look.proofs.JobAnswers.{compared}
+use Rattle.look.proofs.JobAnswers.{given}
 use borrow.Author.Needs.{needs}
 use Rattle.look.proofs.reports.pair_report.Statement.{statement}
 use Rattle.look.proofs.reports.pair_report.Tie as tie
@@ -26,7 +26,7 @@ returns c =
     let m = c .before .before .before .before .before in
     let s = c .before .before .before .before .before .before .before .before .before .before .before in
     subst (λ (z : ℤ). IsLine (pair-line (s .args .pair) z) (s .args .line .now) (c .before .before .pair-line .result) (c .before .before .pair-line .last .1 .1 .0))
-    (toZ-ofZ w32 (m .compare .result) (record { sfits = m .compare .ok }) ∙ compared _ _ _ _ _ _ (m .compare .ensures) (search needs))
+    (toZ-ofZ w32 (m .compare .result) (record { sfits = m .compare .ok }) ∙ given _ (search needs) _ _ (m .compare .ensures))
     (c .before .before .pair-line .ensures)
 
 pub pair-report-spec : {M : Type 1} → statement M

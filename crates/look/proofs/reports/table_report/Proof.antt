@@ -18,21 +18,19 @@ same-length : tie.Need-same-length
 same-length c = search needs
 
 returns : tie.Need-returns
-returns c = refused-first _ _ _ _ _ _ (c .before .before .before .before .before .load .ensures) _ _ _ (c .before .before .before .before .if1 .taken) (c .before .before .refused-line .ensures)
+returns c = refused-first _ (c .before .before .before .before .before .load .ensures) (c .before .before .before .before .if1 .taken) (c .before .before .refused-line .ensures)
 
 table-line-requires : tie.Need-table-line-requires
 table-line-requires c κs = search needs
 
 cast-t17 : tie.Need-cast-t17
-cast-t17 c =
-    let t = c .before .before .before .before .before .load .ensures .table (c .before .before .before .before .if1 .left) in
-    omega (arith, t .jobs-are, t .list .jobs)
+cast-t17 c = omega (arith, c .before .before .before .before .before .before .load .ensures .few)
 
 same-length-2 : tie.Need-same-length-2
 same-length-2 c = search needs
 
 returns-2 : tie.Need-returns-2
-returns-2 c = table-first _ _ _ _ _ _ (c .before .before .before .before .before .load .ensures) _ _ _ (c .before .before .before .before .if1 .left) (c .before .before .table-line .ensures)
+returns-2 c = table-first _ (c .before .before .before .before .before .before .load .ensures) (c .before .before .before .before .before .if1 .left) (c .before .before .table-line .ensures)
 
 pub table-report-spec : {M : Type 1} → statement M
 table-report-spec =

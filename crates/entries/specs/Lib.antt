@@ -1,2 +1,0 @@
--- What the seven calls answer.
-pub mod Entries

@@ -1,0 +1,2 @@
+-- What the calls about images answer.
+pub mod ImageCalls

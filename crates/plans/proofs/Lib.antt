@@ -1,2 +1,0 @@
--- Laws of the calls about one plan.
-pub mod Loaded

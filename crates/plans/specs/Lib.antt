@@ -1,0 +1,2 @@
+-- What the calls about one plan answer.
+pub mod PlanCalls

@@ -1,0 +1,2 @@
+-- What the calls about sameness answer.
+pub mod SamenessCalls

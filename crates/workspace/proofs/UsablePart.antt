@@ -1,0 +1,105 @@
+-- The part of a workspace that a call may use: it says whether refusal 1 is due, and once it is cleared the workspace is as a call
+-- leaves it, whatever the part became while it was lent. Assumes nothing.
+use mathlib.Core.Path.{_≡_, refl, sym, ap, ap₂, _∙_}
+use mathlib.Core.Bool.{Bool, true, false, cond}
+use mathlib.Core.List.{List, _++_}
+use Prim.Native.Nat.{ℕ, _-_, _≤_}
+use native.Mathlib.Nat.{sub-zero}
+use native.Mathlib.Omega.{arith}
+use lib.Dec.{ltb}
+use lib.ListN.{length, take, drop, replicate, length-replicate, length-append, length-take, length-drop}
+use lib.Seq.{drop-at}
+use borrow.Author.Tests.{ltb-false, le-ltb}
+use Rattle.area.specs.Areas.{put}
+use Rattle.area.proofs.PutLaws.{put-front}
+use Rattle.answer.specs.Refusals.{space-size, space-refusal}
+use Rattle.answer.specs.Answer.{space-after}
+use Rattle.workspace.specs.Usable.{usable}
+
+-- a workspace that refusal 1 does not meet
+pub long-enough : (s : List ℕ) → space-refusal s ≡ 0 → 65536 ≤ length s
+unfolding space-refusal space-size
+long-enough s h = go (ltb (length s) 65536) refl
+  where
+    go : (b : Bool) → ltb (length s) 65536 ≡ b → 65536 ≤ length s
+    go true e = absurd (let k = sym h ∙ ap (λ (x : Bool). cond x 1 0) e in omega arith)
+    go false e = ltb-false (length s) 65536 e
+
+pub long-passes : (s : List ℕ) → 65536 ≤ length s → space-refusal s ≡ 0
+unfolding space-refusal space-size
+long-passes s h = ap (λ (b : Bool). cond b 1 0) (le-ltb (length s) 65536 h)
+
+-- refusal 1 by how much may be used
+module _ (s : List ℕ) where
+  pub none-usable : usable s ≡ 0 → space-refusal s ≡ 1
+  unfolding usable space-refusal space-size
+  none-usable h = go (ltb (length s) 65536) h
+    where
+      go : (b : Bool) → _≡_ {A = ℕ} (cond b 0 65536) 0 → _≡_ {A = ℕ} (cond b 1 0) 1
+      go true e = refl
+      go false e = absurd (omega arith)
+
+  pub some-usable : (usable s ≡ 0 → ⊥) → space-refusal s ≡ 0
+  unfolding usable space-refusal space-size
+  some-usable h = go (ltb (length s) 65536) h
+    where
+      go : (b : Bool) → (_≡_ {A = ℕ} (cond b 0 65536) 0 → ⊥) → _≡_ {A = ℕ} (cond b 1 0) 0
+      go true d = absurd (d refl)
+      go false d = refl
+
+  pub usable-inside : usable s ≤ length s
+  unfolding usable
+  usable-inside = go (ltb (length s) space-size) refl
+    where
+      go : (b : Bool) → ltb (length s) space-size ≡ b → cond b 0 space-size ≤ length s
+      go true e = omega arith
+      go false e = ltb-false (length s) space-size e
+
+  lent-length : length (take (usable s) s) ≡ usable s
+  lent-length = length-take (usable s) s ∙ omega (arith, usable-inside)
+
+  -- the part is too short exactly if the workspace is
+  usable-short : ltb (usable s) space-size ≡ ltb (length s) space-size
+  unfolding usable space-size
+  usable-short = go (ltb (length s) 65536)
+    where
+      go : (b : Bool) → ltb (cond b 0 65536) 65536 ≡ b
+      go true = refl
+      go false = refl
+
+  pub lent-refusal : space-refusal (take (usable s) s) ≡ space-refusal s
+  unfolding space-refusal
+  lent-refusal = ap (λ (b : Bool). cond b 1 0) (ap (λ (n : ℕ). ltb n space-size) lent-length ∙ usable-short)
+
+  -- zeros in the part
+  cleared : replicate (usable s) 0 ++ drop (usable s) s ≡ space-after s
+  unfolding usable space-after
+  cleared = go (ltb (length s) space-size)
+    where
+      go : (b : Bool) → replicate (cond b 0 space-size) 0 ++ drop (cond b 0 space-size) s ≡ cond b s (replicate space-size 0 ++ drop space-size s)
+      go true = refl
+      go false = refl
+
+  pub part-cleared : (n : ℕ) → n ≡ usable s → put 0 (replicate (n - 0) 0) s ≡ space-after s
+  part-cleared n e =
+      put-front (replicate (n - 0) 0) s
+      ∙ ap (λ (k : ℕ). replicate k 0 ++ drop (length (replicate {A = ℕ} k 0)) s) (sub-zero n ∙ e)
+      ∙ ap (λ (k : ℕ). replicate (usable s) 0 ++ drop k s) (length-replicate (usable s) 0)
+      ∙ cleared
+
+  module _ (w : List ℕ) (e : length w ≡ usable s) where
+    same-length : length (w ++ drop (usable s) s) ≡ length s
+    same-length = length-append w (drop (usable s) s) ∙ omega (arith, e, length-drop (usable s) s, usable-inside)
+
+    same-usable : usable (w ++ drop (usable s) s) ≡ usable s
+    unfolding usable
+    same-usable = ap (λ (n : ℕ). cond (ltb n space-size) 0 space-size) same-length
+
+-- whatever the part became
+pub lent-cleared : (s w : List ℕ) → length w ≡ usable s → space-after (w ++ drop (usable s) s) ≡ space-after s
+lent-cleared s w e =
+    let x = w ++ drop (usable s) s in
+    sym (cleared x)
+    ∙ ap₂ (λ (n : ℕ) (l : List ℕ). replicate n 0 ++ l) (same-usable s w e)
+    (ap (λ (n : ℕ). drop n x) (same-usable s w e) ∙ drop-at w (drop (usable s) s) (usable s) e)
+    ∙ cleared s

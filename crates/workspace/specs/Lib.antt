@@ -1,0 +1,2 @@
+-- The part of a workspace that a call may use.
+pub mod Usable
