@@ -6,4 +6,3 @@ pub mod Judge
 pub mod Base
 pub mod Forms
 pub mod Answers
-pub mod WorkedCases

@@ -5,7 +5,7 @@ use mathlib.Core.List.{List, [], _∷_, map}
 use Prim.Native.Nat.{ℕ, zero, suc, _+_, _≤_, _<_, min}
 use lib.Dec.{ltb, eqb}
 use lib.ListN.{length, getD, replicate}
-use Rattle.bpa.specs.Plans.{Rule, Table, all-below, over, HasRule, Runs}
+use Rattle.bpa.specs.Plans.{Rule, Table, over, HasRule, Runs}
 
 -- The norm of a plan by the norms of its jobs, which stand at their numbers; 0 stands for none yet.
 unfoldable pub sum-of : (norms : List ℕ) → (plan : List ℕ) → ℕ
@@ -64,15 +64,3 @@ pub record Good (t : Table) (ns : List ℕ) : Type 0 where
   pub closed : (j a : ℕ) (w : List ℕ) → HasRule t j a w → over t w ≡ true
   pub slow : (j a : ℕ) (w : List ℕ) → HasRule t j a w → getD ns j 0 ≤ suc (sum-of ns w)
   pub falls : (j : ℕ) → j < t .jobs → (a : ℕ) × (w : List ℕ) × HasRule t j a w × (getD ns j 0 ≡ suc (sum-of ns w))
-
--- the same as a test: the jobs after every rule are below the job count, and no norm is missing
-unfoldable pub rules-closed : (jobs : ℕ) → List Rule → Bool
-rules-closed n [] = true
-rules-closed n (r ∷ rs) = all-below n (r .after) && rules-closed n rs
-
-unfoldable pub none-missing : (norms : List ℕ) → Bool
-none-missing [] = true
-none-missing (v ∷ vs) = ltb 0 v && none-missing vs
-
-unfoldable pub table-good : Table → Bool
-table-good t = rules-closed (t .jobs) (t .rules) && none-missing (norms t)

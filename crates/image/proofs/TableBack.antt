@@ -118,23 +118,34 @@ module _ (n : ℕ) (rs : List ℕ) (g : GoodList n rs) where
           ap block-places (block-written n rs g k l)
           ∙ filled-places n k (blocks-for rs) (part k rs) (rules-for k rs) (part-length rs (g .whole) k) (part-few rs (g .whole) k)
 
+  jobs-held : image-jobs (written n rs) ≡ n
+  unfolding image-jobs
+  jobs-held = jobs-back
+
+  places-held : image-places (written n rs) ≡ rs
+  unfolding image-places
+  places-held = ap (λ m. places-from m 0 (written n rs)) blocks-back ∙ places-back (blocks-for rs) 0 (omega arith)
+
+  -- THE TABLE that a written image holds is the one that it was written from
+  pub table-held : table-in (written n rs) ≡ table-of n rs
+  unfolding table-in
+  table-held = λ i. table-of (jobs-held i) (places-held i)
+
 module _ (n : ℕ) (rs : List ℕ) (h : write-refusal n rs ≡ 0) where
   good : GoodList n rs
   unfolding write-refusal
   good = good-list n rs (neither (list-refusal n rs) (table-refusal (table-of n rs)) h .0)
 
-  -- THE TABLE that a written image holds is the one that it was written from
+  -- the same of a list that the writer accepts, part by part; and its image is accepted
   pub table-jobs : image-jobs (written n rs) ≡ n
-  unfolding image-jobs
-  table-jobs = jobs-back n rs good
+  table-jobs = jobs-held n rs good
 
   pub table-places : image-places (written n rs) ≡ rs
-  unfolding image-places
-  table-places = ap (λ m. places-from m 0 (written n rs)) (blocks-back n rs good) ∙ places-back n rs good (blocks-for rs) 0 (omega arith)
+  table-places = places-held n rs good
 
   pub table-back : image-refusal (written n rs) ≡ 0
-  unfolding image-refusal write-refusal table-in
+  unfolding image-refusal write-refusal
   table-back =
       both-pass (layout-refusal (written n rs)) (table-refusal (table-in (written n rs)))
       (accepted (written n rs) (written-laid-out n rs good))
-      ((λ i. table-refusal (table-of (table-jobs i) (table-places i))) ∙ neither (list-refusal n rs) (table-refusal (table-of n rs)) h .1)
+      (ap table-refusal (table-held n rs good) ∙ neither (list-refusal n rs) (table-refusal (table-of n rs)) h .1)

@@ -2,4 +2,4 @@
 pub mod WrittenBytes
 pub mod Promises
 pub mod Calls
-pub mod WorkedImages
+pub mod WorkedCases

@@ -1,3 +1,4 @@
 -- What is promised of tables, plans and images.
 pub mod Promises
 pub mod Calls
+pub mod WorkedCases

@@ -1,0 +1,162 @@
+-- EVERY WORKED CASE IS TRUE: one computed proof of the test, and one lemma that turns the test into what the cases mean: what is
+-- computed on the rules of a table is so of the table in the image that is written from them. Assumes nothing.
+use mathlib.Core.Path.{_≡_, refl, sym, ap, ap₂, _∙_, subst}
+use mathlib.Core.Bool.{true, not, false≢true}
+use mathlib.Core.List.{List, [], _∷_, List·Memᴰ, List·Memᴰ·not-nil, List·Memᴰ·cases-cons}
+use mathlib.Core.Logic.{_↔_, ⊎-elim}
+use Prim.Native.Nat.{ℕ}
+use lib.Dec.{eqb}
+use lib.ListN.{getD}
+use borrow.Author.Tests.{eqb-true, not-true}
+use Rattle.area.specs.Numbers.{number-at, low-first}
+use Rattle.bpa.specs.Plans.{Table, all-below, job-moves, moves}
+use Rattle.bpa.specs.Norms.{sum-of, all-known, lesser, best, one-round, rounds, norms, Good}
+use Rattle.bpa.specs.Bisimilar.{Bisimilar, Prime, All-lowest, one-more, Form}
+use Rattle.bpa.specs.Method.{precedes, lowering, lower-by, candidate, itself, expand, replace, grow, first-difference, turn}
+use Rattle.bpa.specs.Method.{judge, judged, answered, all-answered, matched, fits, holds, pairs-of, pairs-below, first-base}
+use Rattle.bpa.specs.Method.{keep-fitting, round, refine, final-base, first-of, least-pair, prime-row, prime-rows, same, prime-form}
+use Rattle.bpa.proofs.Basics.Cases.{and-left, and-right, never-both}
+use Rattle.bpa.proofs.Norm.NormExact.{job-norm, job-without}
+use Rattle.bpa.proofs.Answers.{same-exact, form-exists}
+use Rattle.rules.specs.Places.{all-zero, rule-in, place-good, places-good, rules-in, rule-count, table-of}
+use Rattle.answer.specs.Refusals.{or-else}
+use Rattle.answer.proofs.RefusalChains.{neither, both-pass}
+use Rattle.refusal.specs.Refusals.{any-zero, any-above, norms-refusal, table-refusal, jobs-refusal, sum-refusal, plan-refusal, plans-refusal}
+use Rattle.refusal.proofs.PlanRefusals.{accepted-plan, accepted-plans}
+use Rattle.image.specs.Image.{byte-sum, checksum, block, blocks-in, rules-in-block, block-places, each-block, length-good, sum-good}
+use Rattle.image.specs.Image.{rules-fit, head-of, head-good, places-of-block, block-good, layout-refusal, places-from, image-jobs}
+use Rattle.image.specs.Image.{image-places, table-in, image-refusal}
+use Rattle.image.specs.Writing.{blocks-for, rules-for, body, written-block, written-from, written, list-refusal, write-refusal}
+use Rattle.image.proofs.ListRefusal.{good-list}
+use Rattle.image.proofs.TableBack.{table-held, table-back}
+use Rattle.table.specs.CallRefusals.{one-plan, two-plans}
+use Rattle.table.proofs.ImageTables.{image-table}
+use Rattle.table.proofs.ListTables.{list-closed}
+use Rattle.promises.specs.WorkedCases.{Worked, image-of, read-back, listed, Normed, Means, equal-plans, pair-passes, has-form}
+use Rattle.promises.specs.WorkedCases.{passes, all-pass, cases}
+use Rattle.promises.specs.WorkedCases.{Case, refusal-is, byte-is, norms-are, pair-refusal-is, are-same, are-apart, form-is, is-prime}
+
+-- THE COMPUTED PROOF
+cases-pass : all-pass cases ≡ true
+unfolding all-pass passes has-form pair-passes equal-plans all-below job-moves moves sum-of all-known lesser best one-round rounds
+    norms precedes lowering lower-by candidate itself expand replace grow first-difference turn judge judged answered all-answered matched
+    fits holds pairs-of pairs-below first-base keep-fitting round refine final-base first-of least-pair prime-row prime-rows same
+    prime-form all-zero rule-in place-good places-good rules-in rule-count table-of any-zero any-above norms-refusal table-refusal or-else
+    jobs-refusal sum-refusal plan-refusal plans-refusal number-at byte-sum checksum block blocks-in rules-in-block block-places each-block
+    length-good sum-good rules-fit head-of head-good places-of-block block-good layout-refusal places-from image-jobs image-places table-in
+    image-refusal low-first blocks-for rules-for body written-block written-from written list-refusal write-refusal
+cases-pass = refl
+
+plans-equal : (p q : List ℕ) → equal-plans p q ≡ true → p ≡ q
+unfolding equal-plans
+plans-equal [] [] e = refl
+plans-equal [] (y ∷ ys) e = absurd (false≢true e)
+plans-equal (x ∷ xs) [] e = absurd (false≢true e)
+plans-equal (x ∷ xs) (y ∷ ys) e =
+    ap₂ _∷_ (eqb-true x y (and-left (eqb x y) (equal-plans xs ys) e))
+    (plans-equal xs ys (and-right (eqb x y) (equal-plans xs ys) e))
+
+module _ (w : Worked) where
+  abbrev writer : ℕ
+  writer = write-refusal (w .jobs) (w .rules)
+
+  -- a list past 2, 4 and 5: the table in its image is the list's
+  held : list-refusal (w .jobs) (w .rules) ≡ 0 → read-back w ≡ listed w
+  held h = table-held (w .jobs) (w .rules) (good-list (w .jobs) (w .rules) h)
+
+  norms-hold : (ns : List ℕ) → list-refusal (w .jobs) (w .rules) ≡ 0 → norms (listed w) ≡ ns → Normed (read-back w) (w .jobs) ns
+  unfolding table-of
+  norms-hold ns h e =
+      let closed = list-closed (w .jobs) (w .rules) h in
+      subst (λ (t : Table). Normed t (w .jobs) ns) (sym (held h))
+      (subst (Normed (listed w) (w .jobs)) e
+      (λ j l. (job-without (listed w) closed j l .0, job-norm (listed w) closed j l)))
+
+  -- a list that the writer accepts, and a check of its table: both are past in its image too
+  module _ (check : Table → ℕ) (e : eqb (or-else writer (check (listed w))) 0 ≡ true) where
+    parts : (writer ≡ 0) × (check (listed w) ≡ 0)
+    parts = neither writer (check (listed w)) (eqb-true (or-else writer (check (listed w))) 0 e)
+
+    image-passed : image-refusal (image-of w) ≡ 0
+    image-passed = table-back (w .jobs) (w .rules) (parts .0)
+
+    good : Good (read-back w) (norms (read-back w))
+    good = image-table (image-of w) image-passed .good
+
+    back : read-back w ≡ listed w
+    unfolding write-refusal
+    back = held (neither (list-refusal (w .jobs) (w .rules)) (table-refusal (listed w)) (parts .0) .0)
+
+    check-passed : check (read-back w) ≡ 0
+    check-passed = ap check back ∙ parts .1
+
+    both-passed : or-else (image-refusal (image-of w)) (check (read-back w)) ≡ 0
+    both-passed = both-pass (image-refusal (image-of w)) (check (read-back w)) image-passed check-passed
+
+  module _ (p q : List ℕ) (e : pair-passes w p q ≡ true) where
+    abbrev check-pair : Table → ℕ
+    check-pair t = plans-refusal t p q
+
+    pair-accepted : two-plans (image-of w) p q ≡ 0
+    unfolding pair-passes
+    pair-accepted = both-passed check-pair e
+
+    pair-told : (same (listed w) p q ≡ true) ↔ Bisimilar (read-back w) p q
+    unfolding pair-passes
+    pair-told =
+        let (a, b) = accepted-plans (read-back w) p q (check-passed check-pair e) in
+        let same-back = ap (λ (t : Table). same t p q) (back check-pair e) in
+        let exact = same-exact (read-back w) (good check-pair e) p q (a .over-table) (b .over-table) in
+        (λ s. exact .0 (same-back ∙ s), λ s. sym same-back ∙ exact .1 s)
+
+  form-holds : (p f : List ℕ) → has-form w p f ≡ true → (one-plan (image-of w) p ≡ 0) × Form (read-back w) p f
+  unfolding has-form
+  form-holds p f e =
+      let check : Table → ℕ = λ t. plan-refusal t p in
+      let equal = equal-plans (prime-form (listed w) p) f in
+      let k = and-left (eqb (or-else writer (check (listed w))) 0) equal e in
+      let l = and-right (eqb (or-else writer (check (listed w))) 0) equal e in
+      let is-form = ap (λ (t : Table). prime-form t p) (back check k) ∙ plans-equal (prime-form (listed w) p) f l in
+      let over-table = accepted-plan (read-back w) p (check-passed check k) .over-table in
+      (both-passed check k, subst (Form (read-back w) p) is-form (form-exists (read-back w) (good check k) p over-table))
+
+form-prime : (t : Table) (j : ℕ) → Form t (j ∷ []) (j ∷ []) → Prime t j
+form-prime t j f = go (f .lowest)
+  where
+    go : {js : List ℕ} → All-lowest t (j ∷ js) → Prime t j
+    go (one-more i is l a) = l .prime
+
+-- A CASE THAT PASSES IS TRUE
+case-true : (c : Case) → passes c ≡ true → Means c
+unfolding passes
+case-true (refusal-is w f) e =
+    let a = eqb (write-refusal (w .jobs) (w .rules)) f in
+    let b = eqb (image-refusal (image-of w)) f in
+    (eqb-true (write-refusal (w .jobs) (w .rules)) f (and-left a b e), eqb-true (image-refusal (image-of w)) f (and-right a b e))
+case-true (byte-is w i v) e = eqb-true (getD (image-of w) i 0) v e
+case-true (norms-are w ns) e =
+    let a = eqb (list-refusal (w .jobs) (w .rules)) 0 in
+    let b = equal-plans (norms (listed w)) ns in
+    norms-hold w ns (eqb-true (list-refusal (w .jobs) (w .rules)) 0 (and-left a b e)) (plans-equal (norms (listed w)) ns (and-right a b e))
+case-true (pair-refusal-is w p q f) e = eqb-true (two-plans (image-of w) p q) f e
+case-true (are-same w p q) e =
+    let k = and-left (pair-passes w p q) (same (listed w) p q) e in
+    (pair-accepted w p q k, pair-told w p q k .0 (and-right (pair-passes w p q) (same (listed w) p q) e))
+case-true (are-apart w p q) e =
+    let k = and-left (pair-passes w p q) (not (same (listed w) p q)) e in
+    let no = not-true (same (listed w) p q) (and-right (pair-passes w p q) (not (same (listed w) p q)) e) in
+    (pair-accepted w p q k, λ b. never-both (same (listed w) p q) (pair-told w p q k .1 b) no)
+case-true (form-is w p f) e = form-holds w p f e
+case-true (is-prime w j) e = form-prime (read-back w) j (form-holds w (j ∷ []) (j ∷ []) e .1)
+
+-- and so are all of a list
+all-true : (cs : List Case) → all-pass cs ≡ true → (c : Case) → List·Memᴰ c cs → Means c
+unfolding all-pass
+all-true [] e c m = absurd (List·Memᴰ·not-nil m)
+all-true (d ∷ cs) e c m =
+    ⊎-elim (λ p. case-true c (ap passes p ∙ and-left (passes d) (all-pass cs) e))
+    (all-true cs (and-right (passes d) (all-pass cs) e) c) (List·Memᴰ·cases-cons m)
+
+-- EVERY CASE IS TRUE
+pub cases-hold : (c : Case) → List·Memᴰ c cases → Means c
+cases-hold = all-true cases cases-pass

@@ -1,0 +1,148 @@
+-- The worked tables of document 01 marked P, two of them from 000: one list of cases, what each means, and one test over them.
+-- The test computes on the rules of a table; the meaning is of the image that is written from them. Assumes nothing: these are
+-- definitions.
+use mathlib.Core.Path.{_≡_}
+use mathlib.Core.Bool.{Bool, true, false, not, _&&_}
+use mathlib.Core.List.{List, [], _∷_, _++_}
+use Prim.Native.Nat.{ℕ, _<_}
+use lib.Dec.{eqb}
+use lib.ListN.{getD}
+use Rattle.bpa.specs.Plans.{Table}
+use Rattle.bpa.specs.Norms.{norms, Fewest, Endless}
+use Rattle.bpa.specs.Bisimilar.{Bisimilar, Prime, Form}
+use Rattle.bpa.specs.Method.{same, prime-form}
+use Rattle.rules.specs.Places.{table-of}
+use Rattle.answer.specs.Refusals.{or-else}
+use Rattle.refusal.specs.Refusals.{plan-refusal, plans-refusal}
+use Rattle.image.specs.Image.{table-in, image-refusal}
+use Rattle.image.specs.Writing.{written, list-refusal, write-refusal}
+use Rattle.table.specs.CallRefusals.{one-plan, two-plans}
+
+-- A WORKED TABLE: a job count, and the rules as 8-byte places in a row
+pub record Worked : Type 0 where
+  pub jobs : ℕ
+  pub rules : List ℕ
+
+-- its image, the table that a call reads from that image, and the table by its rules
+abbrev pub image-of : Worked → List ℕ
+image-of w = written (w .jobs) (w .rules)
+
+abbrev pub read-back : Worked → Table
+read-back w = table-in (image-of w)
+
+abbrev pub listed : Worked → Table
+listed w = table-of (w .jobs) (w .rules)
+
+-- THE CASES
+pub data Case : Type 0 where
+  -- the writer refuses the list by this, and the image is refused by it too; 0 is accepted
+  refusal-is : (w : Worked) (refusal : ℕ) → Case
+  byte-is : (w : Worked) (at value : ℕ) → Case
+  norms-are : (w : Worked) (by-job : List ℕ) → Case
+  pair-refusal-is : (w : Worked) (left right : List ℕ) (refusal : ℕ) → Case
+  are-same : (w : Worked) (left right : List ℕ) → Case
+  are-apart : (w : Worked) (left right : List ℕ) → Case
+  form-is : (w : Worked) (plan form : List ℕ) → Case
+  is-prime : (w : Worked) (job : ℕ) → Case
+
+-- a job of norm 0 has no run to its end
+abbrev pub Normed : Table → (jobs : ℕ) → (by-job : List ℕ) → Type 0
+Normed t n ns =
+    (j : ℕ) → j < n → (getD ns j 0 ≡ 0 → Endless t (j ∷ [])) × (0 < getD ns j 0 → Fewest t (j ∷ []) (getD ns j 0))
+
+-- WHAT A CASE MEANS, of the written image and of the table that is read from it
+abbrev pub Means : Case → Type 0
+Means (refusal-is w f) = (write-refusal (w .jobs) (w .rules) ≡ f) × (image-refusal (image-of w) ≡ f)
+Means (byte-is w i v) = getD (image-of w) i 0 ≡ v
+Means (norms-are w ns) = Normed (read-back w) (w .jobs) ns
+Means (pair-refusal-is w p q f) = two-plans (image-of w) p q ≡ f
+Means (are-same w p q) = (two-plans (image-of w) p q ≡ 0) × Bisimilar (read-back w) p q
+Means (are-apart w p q) = (two-plans (image-of w) p q ≡ 0) × (Bisimilar (read-back w) p q → ⊥)
+Means (form-is w p f) = (one-plan (image-of w) p ≡ 0) × Form (read-back w) p f
+Means (is-prime w j) = Prime (read-back w) j
+
+-- THE TEST
+unfoldable pub equal-plans : (p q : List ℕ) → Bool
+equal-plans [] [] = true
+equal-plans [] (y ∷ ys) = false
+equal-plans (x ∷ xs) [] = false
+equal-plans (x ∷ xs) (y ∷ ys) = eqb x y && equal-plans xs ys
+
+-- no refusal meets the list and the plans
+unfoldable pub pair-passes : (w : Worked) → (p q : List ℕ) → Bool
+pair-passes w p q = eqb (or-else (write-refusal (w .jobs) (w .rules)) (plans-refusal (listed w) p q)) 0
+
+unfoldable pub has-form : (w : Worked) → (p f : List ℕ) → Bool
+has-form w p f =
+    eqb (or-else (write-refusal (w .jobs) (w .rules)) (plan-refusal (listed w) p)) 0 && equal-plans (prime-form (listed w) p) f
+
+unfoldable pub passes : Case → Bool
+passes (refusal-is w f) = eqb (write-refusal (w .jobs) (w .rules)) f && eqb (image-refusal (image-of w)) f
+passes (byte-is w i v) = eqb (getD (image-of w) i 0) v
+passes (norms-are w ns) = eqb (list-refusal (w .jobs) (w .rules)) 0 && equal-plans (norms (listed w)) ns
+passes (pair-refusal-is w p q f) = eqb (two-plans (image-of w) p q) f
+passes (are-same w p q) = pair-passes w p q && same (listed w) p q
+passes (are-apart w p q) = pair-passes w p q && not (same (listed w) p q)
+passes (form-is w p f) = has-form w p f
+passes (is-prime w j) = has-form w (j ∷ []) (j ∷ [])
+
+unfoldable pub all-pass : List Case → Bool
+all-pass [] = true
+all-pass (c ∷ cs) = passes c && all-pass cs
+
+-- THE TABLES; moves a, b, c are 97, 98, 99. A rule as a place: no job, one job and two jobs after its move
+abbrev pub to-none : (job move : ℕ) → List ℕ
+to-none j a = j ∷ a ∷ 0 ∷ 0 ∷ 0 ∷ 0 ∷ 0 ∷ 0 ∷ []
+
+abbrev pub to-one : (job move after : ℕ) → List ℕ
+to-one j a k = j ∷ a ∷ 1 ∷ k ∷ 0 ∷ 0 ∷ 0 ∷ 0 ∷ []
+
+abbrev pub to-two : (job move first second : ℕ) → List ℕ
+to-two j a k l = j ∷ a ∷ 2 ∷ k ∷ l ∷ 0 ∷ 0 ∷ 0 ∷ []
+
+-- document 01's table T
+abbrev pub table-t : Worked
+table-t = record { jobs = 4; rules = to-none 0 97 ++ to-one 1 97 0 ++ to-one 2 97 1 ++ to-one 3 98 0 }
+
+-- 000's S1 = 0, X = 1, S2 = 2, B = 3, C = 4
+abbrev pub late-choice : Worked
+late-choice =
+    record {
+      jobs = 5;
+      rules =
+          to-one 0 97 1 ++ to-none 1 98 ++ to-none 1 99 ++ to-one 2 97 3 ++ to-one 2 97 4 ++ to-none 3 98 ++ to-none 4 99;
+    }
+
+-- 000's X = 0, Y = 1, Z = 2
+abbrev pub growing : Worked
+growing = record { jobs = 3; rules = to-one 0 97 1 ++ to-two 1 97 1 2 ++ to-none 1 98 ++ to-none 2 98 }
+
+-- a rule written twice
+abbrev pub twice-at-one : Worked
+twice-at-one = record { jobs = 2; rules = to-none 0 97 ++ to-none 1 97 ++ to-none 1 97 }
+
+abbrev pub twice-at-zero : Worked
+twice-at-zero = record { jobs = 2; rules = to-none 0 97 ++ to-none 0 97 ++ to-none 1 97 }
+
+-- a rule back to its own job, alone and with a second rule to nothing
+abbrev pub back-to-itself : Worked
+back-to-itself = record { jobs = 1; rules = to-one 0 97 0 }
+
+abbrev pub back-or-done : Worked
+back-or-done = record { jobs = 1; rules = to-one 0 97 0 ++ to-none 0 97 }
+
+abbrev pub cases : List Case
+cases =
+    refusal-is table-t 0 ∷ byte-is table-t 510 152 ∷ byte-is table-t 511 1 ∷ norms-are table-t (1 ∷ 2 ∷ 3 ∷ 2 ∷ []) ∷
+    are-same table-t (2 ∷ 3 ∷ []) (0 ∷ 1 ∷ 3 ∷ []) ∷ are-apart table-t (3 ∷ 0 ∷ []) (0 ∷ 3 ∷ []) ∷ are-same table-t [] [] ∷
+    pair-refusal-is table-t (0 ∷ []) (4 ∷ []) 8 ∷ form-is table-t (2 ∷ 3 ∷ []) (0 ∷ 0 ∷ 0 ∷ 3 ∷ []) ∷
+    form-is table-t (0 ∷ []) (0 ∷ []) ∷ form-is table-t (1 ∷ []) (0 ∷ 0 ∷ []) ∷ form-is table-t (2 ∷ []) (0 ∷ 0 ∷ 0 ∷ []) ∷
+    form-is table-t (3 ∷ []) (3 ∷ []) ∷
+    norms-are late-choice (2 ∷ 1 ∷ 2 ∷ 1 ∷ 1 ∷ []) ∷ are-apart late-choice (0 ∷ []) (2 ∷ []) ∷
+    are-apart late-choice (2 ∷ []) (0 ∷ []) ∷
+    norms-are growing (2 ∷ 1 ∷ 1 ∷ []) ∷ are-apart growing (0 ∷ []) (1 ∷ 2 ∷ []) ∷ is-prime growing 0 ∷ is-prime growing 1 ∷
+    is-prime growing 2 ∷
+    are-same twice-at-one (0 ∷ []) (1 ∷ []) ∷ form-is twice-at-one (1 ∷ []) (0 ∷ []) ∷
+    are-same twice-at-zero (0 ∷ []) (1 ∷ []) ∷ form-is twice-at-zero (1 ∷ []) (0 ∷ []) ∷
+    refusal-is back-to-itself 6 ∷ norms-are back-to-itself (0 ∷ []) ∷
+    refusal-is back-or-done 0 ∷ norms-are back-or-done (1 ∷ []) ∷ []
