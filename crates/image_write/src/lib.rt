@@ -37,14 +37,15 @@ pub fn write_blocks(jobs: u32, rules: &[u8], out: &mut [u8]) -> usize
     ensures { λ r. ⌜ IsPut 0 (written jobs (now (rules .entry))) (now (out .entry)) r (now (out .exit)) ⌝ }
 {
     let blocks = (rules.len() / 8 + 62) / 63;
-    let mut k: usize = 0;
-    while k < blocks {
+    let mut rest = blocks;
+    while 0 < rest {
+        let k = blocks - rest;
+        rest -= 1;
         let a = 512 * k;
         let e = a + 512;
         let from = 504 * k;
         let to = least(from + 504, rules.len());
         fill_block(jobs as usize, k, blocks, &rules[from..to], &mut out[a..e]);
-        k += 1;
     }
     512 * blocks
 }

@@ -1,9 +1,10 @@
 -- What the calls about sameness answer and leave behind, for every input. Assumes nothing: these are definitions.
+use mathlib.Core.Path.{_≡_}
 use mathlib.Core.List.{List}
 use Prim.Native.Nat.{ℕ}
 use lib.IntN.{ℤ}
 use Rattle.bpa.specs.Method.{same, prime-form}
-use Rattle.answer.specs.Answer.{one-if, GivesWithSpace, WritesWithSpace}
+use Rattle.answer.specs.Answer.{one-if, Gives, Writes, with-space, space-after, GivesWithSpace, WritesWithSpace}
 use Rattle.image.specs.Image.{table-in}
 use Rattle.table.specs.CallRefusals.{one-plan, two-plans}
 
@@ -14,3 +15,12 @@ Compared bs p q s r s′ = GivesWithSpace (two-plans bs p q) (one-if (same (tabl
 -- THE PRIME FORM of a plan
 abbrev pub Formed : (image plan out space : List ℕ) → ℤ → (out′ space′ : List ℕ) → Type 0
 Formed bs p o s r o′ s′ = WritesWithSpace (one-plan bs p) (prime-form (table-in bs) p) o s r o′ s′
+
+-- The same before the workspace is cleared: what is left in it is gone then
+pub record Comparing (bs p q s : List ℕ) (r : ℤ) (s′ : List ℕ) : Type 0 where
+  pub answer : Gives (with-space s (two-plans bs p q)) (one-if (same (table-in bs) p q)) r
+  pub clears : space-after s′ ≡ space-after s
+
+pub record Forming (bs p o s : List ℕ) (r : ℤ) (o′ s′ : List ℕ) : Type 0 where
+  pub written : Writes (with-space s (one-plan bs p)) (prime-form (table-in bs) p) o r o′
+  pub clears : space-after s′ ≡ space-after s

@@ -1,21 +1,16 @@
-// The calls with a workspace: compare two plans, and the prime form of a plan. Each works in the part of the workspace that may be
-// used, and leaves that part cleared.
+// The calls with a workspace: compare two plans, and the prime form of a plan. Each works in the front of the workspace, and leaves
+// the part that may be used cleared.
 use answer::or_else;
-ghost use Rattle.bpa.specs.Method as method;
-ghost use Rattle.answer.specs.Answer.{one-if, Gives, Writes, with-space};
-ghost use Rattle.image.specs.Image.{table-in};
-ghost use Rattle.table.specs.CallRefusals.{one-plan, two-plans};
-ghost use Rattle.sameness.specs.SamenessCalls.{Compared, Formed};
+ghost use Rattle.sameness.specs.SamenessCalls.{Compared, Formed, Comparing, Forming};
 
-// The answer of compare, worked out in the area.
-fn compare_in(image: &[u8], left: &[u8], right: &[u8], area: &mut [u8]) -> i32
-    ensures { λ r. ⌜ Gives (with-space (now (area .entry)) (two-plans (now (image .entry)) (now (left .entry)) (now (right .entry))))
-        (one-if (method.same (table-in (now (image .entry))) (now (left .entry)) (now (right .entry)))) r ⌝ }
+// The answer of compare, worked out in the workspace. What that leaves there is gone once the workspace is cleared.
+fn compare_in(image: &[u8], left: &[u8], right: &[u8], space: &mut [u8]) -> i32
+    ensures { λ r. ⌜ Comparing (now (image .entry)) (now (left .entry)) (now (right .entry)) (now (space .entry)) r (now (space .exit)) ⌝ }
 {
     let table = table::load(image);
     let norms = table.norms;
     let of_plans = refusal::plans_refusal(table.jobs, &norms, left, right);
-    let refusal = or_else(workspace::refusal(area), or_else(table.refusal, of_plans));
+    let refusal = or_else(workspace::refusal(space), or_else(table.refusal, of_plans));
     if refusal != 0 {
         return answer::refused(refusal);
     }
@@ -25,7 +20,7 @@ fn compare_in(image: &[u8], left: &[u8], right: &[u8], area: &mut [u8]) -> i32
         &norms,
         left,
         right,
-        &mut area[0..18336],
+        &mut space[0..18336],
     ))
 }
 
@@ -33,21 +28,18 @@ fn compare_in(image: &[u8], left: &[u8], right: &[u8], area: &mut [u8]) -> i32
 pub fn compare(image: &[u8], left: &[u8], right: &[u8], space: &mut [u8]) -> i32
     ensures { λ r. ⌜ Compared (now (image .entry)) (now (left .entry)) (now (right .entry)) (now (space .entry)) r (now (space .exit)) ⌝ }
 {
-    let end = workspace::usable(space);
-    let answer = compare_in(image, left, right, &mut space[0..end]);
-    workspace::clear(space);
-    answer
+    let answer = compare_in(image, left, right, space);
+    workspace::leave(answer, space)
 }
 
-// The prime form or the refusal, worked out in the area.
-fn form_in(image: &[u8], plan: &[u8], out: &mut [u8], area: &mut [u8]) -> i32
-    ensures { λ r. ⌜ Writes (with-space (now (area .entry)) (one-plan (now (image .entry)) (now (plan .entry))))
-        (method.prime-form (table-in (now (image .entry))) (now (plan .entry))) (now (out .entry)) r (now (out .exit)) ⌝ }
+// The prime form or the refusal, worked out in the workspace.
+fn form_in(image: &[u8], plan: &[u8], out: &mut [u8], space: &mut [u8]) -> i32
+    ensures { λ r. ⌜ Forming (now (image .entry)) (now (plan .entry)) (now (out .entry)) (now (space .entry)) r (now (out .exit)) (now (space .exit)) ⌝ }
 {
     let table = table::load(image);
     let norms = table.norms;
     let of_plan = refusal::plan_refusal(table.jobs, &norms, plan);
-    let refusal = or_else(workspace::refusal(area), or_else(table.refusal, of_plan));
+    let refusal = or_else(workspace::refusal(space), or_else(table.refusal, of_plan));
     if refusal != 0 {
         return answer::refused(refusal);
     }
@@ -57,7 +49,7 @@ fn form_in(image: &[u8], plan: &[u8], out: &mut [u8], area: &mut [u8]) -> i32
         &norms,
         plan,
         out,
-        &mut area[0..18336],
+        &mut space[0..18336],
     )
 }
 
@@ -65,8 +57,6 @@ fn form_in(image: &[u8], plan: &[u8], out: &mut [u8], area: &mut [u8]) -> i32
 pub fn prime_form(image: &[u8], plan: &[u8], out: &mut [u8], space: &mut [u8]) -> i32
     ensures { λ r. ⌜ Formed (now (image .entry)) (now (plan .entry)) (now (out .entry)) (now (space .entry)) r (now (out .exit)) (now (space .exit)) ⌝ }
 {
-    let end = workspace::usable(space);
-    let answer = form_in(image, plan, out, &mut space[0..end]);
-    workspace::clear(space);
-    answer
+    let answer = form_in(image, plan, out, space);
+    workspace::leave(answer, space)
 }

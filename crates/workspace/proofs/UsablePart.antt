@@ -1,14 +1,14 @@
 -- The part of a workspace that a call may use: it says whether refusal 1 is due, and once it is cleared the workspace is as a call
--- leaves it, whatever the part became while it was lent. Assumes nothing.
-use mathlib.Core.Path.{_≡_, refl, sym, ap, ap₂, _∙_}
+-- leaves it, whatever the part became. Assumes nothing.
+use mathlib.Core.Path.{_≡_, refl, sym, ap, _∙_}
 use mathlib.Core.Bool.{Bool, true, false, cond}
 use mathlib.Core.List.{List, _++_}
-use Prim.Native.Nat.{ℕ, _-_, _≤_}
+use Prim.Native.Nat.{ℕ, _+_, _-_, _≤_}
 use native.Mathlib.Nat.{sub-zero}
 use native.Mathlib.Omega.{arith}
 use lib.Dec.{ltb}
-use lib.ListN.{length, take, drop, replicate, length-replicate, length-append, length-take, length-drop}
-use lib.Seq.{drop-at}
+use lib.ListN.{length, drop, replicate, length-replicate, length-append, length-drop}
+use lib.Seq.{drop-at, drop-drop}
 use borrow.Author.Tests.{ltb-false, le-ltb}
 use Rattle.area.specs.Areas.{put}
 use Rattle.area.proofs.PutLaws.{put-front}
@@ -28,6 +28,10 @@ long-enough s h = go (ltb (length s) 65536) refl
 pub long-passes : (s : List ℕ) → 65536 ≤ length s → space-refusal s ≡ 0
 unfolding space-refusal space-size
 long-passes s h = ap (λ (b : Bool). cond b 1 0) (le-ltb (length s) 65536 h)
+
+long-after : (s : List ℕ) → 65536 ≤ length s → space-after s ≡ replicate space-size 0 ++ drop space-size s
+unfolding space-after space-size
+long-after s h = ap (λ (b : Bool). cond b s (replicate 65536 0 ++ drop 65536 s)) (le-ltb (length s) 65536 h)
 
 -- refusal 1 by how much may be used
 module _ (s : List ℕ) where
@@ -55,22 +59,6 @@ module _ (s : List ℕ) where
       go true e = omega arith
       go false e = ltb-false (length s) space-size e
 
-  lent-length : length (take (usable s) s) ≡ usable s
-  lent-length = length-take (usable s) s ∙ omega (arith, usable-inside)
-
-  -- the part is too short exactly if the workspace is
-  usable-short : ltb (usable s) space-size ≡ ltb (length s) space-size
-  unfolding usable space-size
-  usable-short = go (ltb (length s) 65536)
-    where
-      go : (b : Bool) → ltb (cond b 0 65536) 65536 ≡ b
-      go true = refl
-      go false = refl
-
-  pub lent-refusal : space-refusal (take (usable s) s) ≡ space-refusal s
-  unfolding space-refusal
-  lent-refusal = ap (λ (b : Bool). cond b 1 0) (ap (λ (n : ℕ). ltb n space-size) lent-length ∙ usable-short)
-
   -- zeros in the part
   cleared : replicate (usable s) 0 ++ drop (usable s) s ≡ space-after s
   unfolding usable space-after
@@ -87,19 +75,16 @@ module _ (s : List ℕ) where
       ∙ ap (λ (k : ℕ). replicate (usable s) 0 ++ drop k s) (length-replicate (usable s) 0)
       ∙ cleared
 
-  module _ (w : List ℕ) (e : length w ≡ usable s) where
-    same-length : length (w ++ drop (usable s) s) ≡ length s
-    same-length = length-append w (drop (usable s) s) ∙ omega (arith, e, length-drop (usable s) s, usable-inside)
+-- the front of a workspace that is long enough was worked in and became w
+module _ (s w : List ℕ) (n : ℕ) (inside : n ≤ 65536) (e : length w ≡ n) where
+  same-behind : drop space-size (w ++ drop n s) ≡ drop space-size s
+  unfolding space-size
+  same-behind =
+      let m : n + (65536 - n) ≡ 65536 = omega arith in
+      let split : (l : List ℕ) → drop 65536 l ≡ drop (65536 - n) (drop n l) = λ l. sym (drop-drop (65536 - n) n l ∙ ap (λ (k : ℕ). drop k l) m) in
+      split (w ++ drop n s) ∙ ap (drop (65536 - n)) (drop-at w (drop n s) n e) ∙ sym (split s)
 
-    same-usable : usable (w ++ drop (usable s) s) ≡ usable s
-    unfolding usable
-    same-usable = ap (λ (n : ℕ). cond (ltb n space-size) 0 space-size) same-length
-
--- whatever the part became
-pub lent-cleared : (s w : List ℕ) → length w ≡ usable s → space-after (w ++ drop (usable s) s) ≡ space-after s
-lent-cleared s w e =
-    let x = w ++ drop (usable s) s in
-    sym (cleared x)
-    ∙ ap₂ (λ (n : ℕ) (l : List ℕ). replicate n 0 ++ l) (same-usable s w e)
-    (ap (λ (n : ℕ). drop n x) (same-usable s w e) ∙ drop-at w (drop (usable s) s) (usable s) e)
-    ∙ cleared s
+  pub front-cleared : 65536 ≤ length s → space-after (w ++ drop n s) ≡ space-after s
+  front-cleared h =
+      let same : length (w ++ drop n s) ≡ length s = length-append w (drop n s) ∙ omega (arith, e, length-drop n s) in
+      long-after (w ++ drop n s) (omega (arith, same)) ∙ ap (λ (l : List ℕ). replicate space-size 0 ++ l) same-behind ∙ sym (long-after s h)

@@ -66,18 +66,18 @@ add-i c = omega (arith, in-base (c .before .before .before) (c .before .before .
 add-k : tie.Need-add-k Inv-loop μ-loop
 add-k c = omega (arith, row (c .before .before .before) (c .before .before .loop-test .taken))
 
-element-copy-out-if1 : tie.Need-element-copy-out-if1 Inv-loop μ-loop
-element-copy-out-if1 c = in-base (c .before .before .before) (c .before .before .loop-test .taken) (c .wide .result) (c .wide .ensures .is)
-
-loop-less : tie.Need-loop-less Inv-loop μ-loop
-loop-less c = omega (arith, c .before .before .before .before .loop-test .taken)
-
 loop-again : tie.Need-loop-again Inv-loop μ-loop
 loop-again c =
     let at = c .before .before .before .before .before in
     let job = c .before .before .wide in
     pass-on (jobs at) (rs at) (ns at) (ord at) (start at .args .base .now) (start at .args .area .now) (at .loop .base) (at .loop .area) (at .loop .dropped) (at .loop .k)
     (at .loop .inv) (at .loop .area) (at .loop .inv .remembered) refl (job .result) (job .ensures .is) (λ e. absurd (omega (arith, c .if1 .taken)))
+
+element-copy-out-if1 : tie.Need-element-copy-out-if1 Inv-loop μ-loop
+element-copy-out-if1 c = in-base (c .before .before .before) (c .before .before .loop-test .taken) (c .wide .result) (c .wide .ensures .is)
+
+loop-less : tie.Need-loop-less Inv-loop μ-loop
+loop-less c = omega (arith, c .before .before .before .before .loop-test .taken)
 
 fits-requires : tie.Need-fits-requires Inv-loop μ-loop
 fits-requires c κs =

@@ -38,14 +38,14 @@ falls true true a b e f = omega (arith, f refl)
 falls false true a b e f = omega arith
 falls out false a b e f = absurd (true≢false (sym e))
 
-loop-less : tie.Need-loop-less Inv-loop μ-loop
-loop-less c =
-    falls (c .before .before .pass .result) (c .before .before .before .before .before .before .loop .again) _ (ones (c .before .before .before .before .before .before .loop .base)) (c .before .before .before .before .before .loop-test .taken) (c .before .before .pass .ensures .fewer)
-
 loop-again : tie.Need-loop-again Inv-loop μ-loop
 loop-again c =
     let d = c .before .before .pass in
     (d .ensures .held, d .ensures .stable, d .kept .1 .1 .1 .1 .1 .1 .1 .1 .1 .0 ∙ c .before .before .before .before .before .before .loop .inv .2, d .ensures .remembered)
+
+loop-less : tie.Need-loop-less Inv-loop μ-loop
+loop-less c =
+    falls (c .before .before .pass .result) (c .before .before .before .before .before .before .loop .again) _ (ones (c .before .before .before .before .before .before .loop .base)) (c .before .before .before .before .before .loop-test .taken) (c .before .before .pass .ensures .fewer)
 
 same-length : tie.Need-same-length Inv-loop μ-loop
 same-length c = c .before .loop .inv .2

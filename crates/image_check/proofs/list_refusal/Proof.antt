@@ -2,6 +2,7 @@
 use mathlib.Core.Path.{_≡_, sym, _∙_}
 use mathlib.Core.Bool.{_&&_, not, cond}
 use mathlib.Core.List.{List}
+use native.Mathlib.Omega.{arith}
 use Prim.Native.Nat.{ℕ, _/_, _%_, _≤_, _<_}
 use lib.Dec.{leb}
 use lib.ListN.{length}
@@ -62,7 +63,7 @@ returns-4 c =
 returns-5 : tie.Need-returns-5
 returns-5 c =
     let n = c .before .before .before .before .before .before .args .jobs in
-    sym (behind (c .before .before) ∙ rw (le-leb 1 n (c .before .if4 .left), lt-leb n 24 (c .if5 .taken)))
+    sym (behind (c .before .before) ∙ rw (le-leb 1 n (c .before .if4 .left), lt-leb n 24 (omega arith)))
 
 places-good-requires : tie.Need-places-good-requires
 places-good-requires c κs = search needs

@@ -12,7 +12,7 @@ use Rattle.area.proofs.PutLaws.{put-front}
 use Rattle.rules.specs.Lists.{GoodList}
 use Rattle.rules.specs.Places.{rule-count}
 use Rattle.image.specs.Writing.{blocks-for, rules-for, written-block, written-from, written}
-use Rattle.image.specs.Filling.{Fills, filled}
+use Rattle.image.specs.Filling.{filled}
 use Rattle.image.proofs.ListRefusal.{good-list}
 use Rattle.image.proofs.WrittenImages.{filled-is, block-size, written-size}
 use native.Mathlib.Omega.{arith}
@@ -32,19 +32,21 @@ record Fixed (n : ℕ) (rs out₀ : List ℕ) (count : ℕ) : Type 0 where
   last : 504 * count < length rs + 504
   room : 512 * count ≤ length out₀
 
-record State (n : ℕ) (rs out₀ : List ℕ) (count k : ℕ) (out : List ℕ) : Type 0 where
+-- `rest` blocks are left
+record State (n : ℕ) (rs out₀ : List ℕ) (count rest : ℕ) (out : List ℕ) : Type 0 where
   fixed : Fixed n rs out₀ count
-  within : k ≤ count
+  within : rest ≤ count
   size : length out ≡ length out₀
-  done : take (512 * k) out ++ written-from (count - k) k n rs ≡ written n rs
-  kept : drop (512 * k) out ≡ drop (512 * k) out₀
+  done : take (512 * (count - rest)) out ++ written-from rest (count - rest) n rs ≡ written n rs
+  kept : drop (512 * (count - rest)) out ≡ drop (512 * (count - rest)) out₀
 
-begin : (n : ℕ) (rs out : List ℕ) → GoodList n rs → length (written n rs) ≤ length out → State n rs out (blocks rs) 0 out
+begin : (n : ℕ) (rs out : List ℕ) → GoodList n rs → length (written n rs) ≤ length out → State n rs out (blocks rs) (blocks rs) out
 unfolding rule-count blocks-for written
 begin n rs out g room =
     let sized = g .whole in
     let some = g .some in
     let few = g .few in
+    let none : blocks rs - blocks rs ≡ 0 = omega arith in
     let all = written-size rs sized n in record {
       fixed = record {
         sized = sized;
@@ -57,65 +59,66 @@ begin n rs out g room =
       };
       within = omega arith;
       size = refl;
-      done = rw sub-zero;
+      done = rw none;
       kept = refl;
     }
 
 -- block k and those behind it
-one-more : (n : ℕ) (rs : List ℕ) (count k : ℕ) → k < count → written-from (count - k) k n rs ≡ written-block n k rs ++ written-from (count - (k + 1)) (k + 1) n rs
+one-more : (n : ℕ) (rs : List ℕ) (rest k next : ℕ) → 0 < rest → next ≡ k + 1 →
+    written-from rest k n rs ≡ written-block n k rs ++ written-from (rest - 1) next n rs
 unfolding written-from
-one-more n rs count k h = let left : count - k ≡ suc (count - (k + 1)) = omega arith in rw (left, add-one)
+one-more n rs rest k next h e =
+    let left : rest ≡ suc (rest - 1) = omega arith in
+    let step : suc k ≡ next = omega arith in
+    ap (λ m. written-from m k n rs) left ∙ ap (λ m. written-block n k rs ++ written-from (rest - 1) m n rs) step
 
-no-more : (n : ℕ) (rs : List ℕ) (count k : ℕ) → count ≤ k → written-from (count - k) k n rs ≡ []
+no-more : (n : ℕ) (rs : List ℕ) (rest k : ℕ) → rest ≤ 0 → written-from rest k n rs ≡ []
 unfolding written-from
-no-more n rs count k h = let left : count - k ≡ 0 = omega arith in rw left
+no-more n rs rest k h = let left : rest ≡ 0 = omega arith in rw left
 
-module _ (n : ℕ) (rs out₀ : List ℕ) (k : ℕ) (out : List ℕ) (t : State n rs out₀ (blocks rs) k out) where
-  fills : k < blocks rs → (to : ℕ) → to ≡ min (504 * k + 504) (length rs)
-      → Fills n (take (to - 504 * k) (drop (504 * k) rs)) (take (512 * k + 512 - 512 * k) (drop (512 * k) out))
-  fills h to e = record {
-    whole = simp (length-take, length-drop) (omega arith);
-    few-rules = simp (length-take, length-drop) (omega arith);
-    few-jobs = omega arith;
-  }
+module _ (n : ℕ) (rs out₀ : List ℕ) (rest : ℕ) (out : List ℕ) (t : State n rs out₀ (blocks rs) rest out) where
+  -- the block that is filled next
+  abbrev k : ℕ
+  k = blocks rs - rest
 
-  -- the block that is filled is block k
-  filled-block : k < blocks rs → (to : ℕ) → to ≡ min (504 * k + 504) (length rs) → filled n k (blocks rs) (take (to - 504 * k) (drop (504 * k) rs)) ≡ written-block n k rs
+  filled-block : 0 < rest → (to : ℕ) → to ≡ min (504 * k + 504) (length rs) → filled n k (blocks rs) (take (to - 504 * k) (drop (504 * k) rs)) ≡ written-block n k rs
   unfolding rules-for rule-count blocks-for
   filled-block h to e =
       let size : to - 504 * k ≡ 8 * min 63 (length rs / 8 - 63 * k) = omega arith in
       ap (λ m. filled n k (blocks rs) (take m (drop (504 * k) rs))) size ∙ filled-is rs (t .fixed .sized) n k
 
-  next : k < blocks rs → (to : ℕ) → to ≡ min (504 * k + 504) (length rs) → (block : List ℕ)
+  next : 0 < rest → (to : ℕ) → to ≡ min (504 * k + 504) (length rs) → (block : List ℕ)
       → block ≡ filled n k (blocks rs) (take (to - 504 * k) (drop (504 * k) rs))
-      → State n rs out₀ (blocks rs) (k + 1) (putMid (512 * k) (512 * k + 512 - 512 * k) out block)
+      → State n rs out₀ (blocks rs) (rest - 1) (putMid (512 * k) (512 * k + 512 - 512 * k) out block)
   unfolding rule-count
   next h to e block w =
       let a = 512 * k in
+      let k′ = blocks rs - (rest - 1) in
       let block-is : block ≡ written-block n k rs = w ∙ filled-block h to e in
       let many : length block ≡ 512 = ap length block-is ∙ block-size rs (t .fixed .sized) n k in
       let middle : length (take (a + 512 - a) (drop a out)) ≡ 512 = simp (length-take, length-drop) (omega arith) in
-      let front : length (take a out ++ block) ≡ 512 * (k + 1) = let f = length-take-le a out (omega arith) in length-append (take a out) block ∙ omega arith in
-      let end : 512 * (k + 1) ≡ a + 512 = omega arith in
-      let later = written-from (blocks rs - (k + 1)) (k + 1) n rs in record {
+      let end : 512 * k′ ≡ a + 512 = omega arith in
+      let front : length (take a out ++ block) ≡ 512 * k′ = let f = length-take-le a out (omega arith) in length-append (take a out) block ∙ omega arith in
+      let later = written-from (rest - 1) k′ n rs in record {
         fixed = t .fixed;
         within = omega arith;
         size = same-len-mid a (a + 512 - a) out block (many ∙ sym middle) ∙ t .size;
-        done = ap (λ l. take (512 * (k + 1)) l ++ later) (sym (append-assoc (take a out) block (postOf a (a + 512 - a) out)))
-            ∙ ap (λ l. l ++ later) (take-at (take a out ++ block) (postOf a (a + 512 - a) out) (512 * (k + 1)) front)
-            ∙ append-assoc (take a out) block later ∙ ap (λ l. take a out ++ (l ++ later)) block-is ∙ ap (λ l. take a out ++ l) (sym (one-more n rs (blocks rs) k h)) ∙ t .done;
+        done = ap (λ l. take (512 * k′) l ++ later) (sym (append-assoc (take a out) block (postOf a (a + 512 - a) out)))
+            ∙ ap (λ l. l ++ later) (take-at (take a out ++ block) (postOf a (a + 512 - a) out) (512 * k′) front)
+            ∙ append-assoc (take a out) block later ∙ ap (λ l. take a out ++ (l ++ later)) block-is
+            ∙ ap (λ l. take a out ++ l) (sym (one-more n rs rest k k′ h (omega arith))) ∙ t .done;
         kept = ap (λ m. drop m (putMid a (a + 512 - a) out block)) end
             ∙ drop-put a (a + 512) out block (omega arith) (omega arith) (omega arith)
             ∙ sym (drop-drop 512 a out) ∙ ap (drop 512) (t .kept) ∙ drop-drop 512 a out₀ ∙ ap (λ m. drop m out₀) (sym end);
       }
 
-  done : blocks rs ≤ k → IsPut 0 (written n rs) out₀ (512 * blocks rs) out
+  done : rest ≤ 0 → IsPut 0 (written n rs) out₀ (512 * blocks rs) out
   unfolding rule-count blocks-for
   done h =
       let all = written-size rs (t .fixed .sized) n in
       let end : length (written n rs) ≡ 512 * k = omega arith in
       let whole : take (512 * k) out ≡ written n rs =
-      sym (append-nil (take (512 * k) out)) ∙ ap (λ l. take (512 * k) out ++ l) (sym (no-more n rs (blocks rs) k h)) ∙ t .done in
+      sym (append-nil (take (512 * k) out)) ∙ ap (λ l. take (512 * k) out ++ l) (sym (no-more n rs rest k h)) ∙ t .done in
       record {
         next = omega arith;
         output =
@@ -124,10 +127,10 @@ module _ (n : ℕ) (rs out₀ : List ℕ) (k : ℕ) (out : List ℕ) (t : State 
       }
 
 abbrev Inv-loop : tie.InvT-loop
-Inv-loop jobs rules out₀ blocks k₀ out k = State jobs rules out₀ blocks k out
+Inv-loop jobs rules out₀ blocks rest₀ out rest = State jobs rules out₀ blocks rest out
 
 abbrev μ-loop : tie.MeasureT-loop
-μ-loop jobs rules out₀ blocks k₀ out k = blocks - k
+μ-loop jobs rules out₀ blocks rest₀ out rest = rest
 
 add-blocks : tie.Need-add-blocks Inv-loop μ-loop
 add-blocks c = omega arith
@@ -136,6 +139,12 @@ loop-holds : tie.Need-loop-holds Inv-loop μ-loop
 loop-holds c =
     let start = c .before .before in
     begin (start .args .jobs) (start .args .rules .now) (start .args .out .now) (good-list _ _ (start .pre .0)) (start .pre .1)
+
+sub-k : tie.Need-sub-k Inv-loop μ-loop
+sub-k c = omega arith
+
+sub-rest : tie.Need-sub-rest Inv-loop μ-loop
+sub-rest c = omega arith
 
 mul-a : tie.Need-mul-a Inv-loop μ-loop
 mul-a c = omega arith
@@ -171,14 +180,11 @@ part-fill-block-end-2 : tie.Need-part-fill-block-end-2 Inv-loop μ-loop
 part-fill-block-end-2 c = omega arith
 
 fill-block-requires : tie.Need-fill-block-requires Inv-loop μ-loop
-fill-block-requires c κs =
-    let at-loop = c .before .before .before .before in
-    let args = at-loop .before .before .before .args in
-    fills (args .jobs) (args .rules .now) (args .out .now) (at-loop .loop .k) (at-loop .loop .out) (at-loop .loop .inv)
-    (c .before .before .before .loop-test .taken) (c .before .before .least .result) (c .before .before .least .ensures)
-
-add-k : tie.Need-add-k Inv-loop μ-loop
-add-k c = omega arith
+fill-block-requires c κs = record {
+  whole = simp (length-take, length-drop) (omega arith);
+  few-rules = simp (length-take, length-drop) (omega (arith, c .before .before .least .ensures));
+  few-jobs = omega arith;
+}
 
 loop-less : tie.Need-loop-less Inv-loop μ-loop
 loop-less c = omega arith
@@ -188,7 +194,7 @@ loop-again c =
     let turned = c .before .before .before .before .before in
     let at-loop = turned .before .before in
     let args = at-loop .before .before .before .args in
-    next (args .jobs) (args .rules .now) (args .out .now) (at-loop .loop .k) (at-loop .loop .out) (at-loop .loop .inv)
+    next (args .jobs) (args .rules .now) (args .out .now) (at-loop .loop .rest) (at-loop .loop .out) (at-loop .loop .inv)
     (turned .before .loop-test .taken) (turned .least .result) (turned .least .ensures)
     (c .before .before .fill-block .last .1 .1 .1 .1 .0) (c .before .before .fill-block .ensures)
 
@@ -202,7 +208,7 @@ returns : tie.Need-returns Inv-loop μ-loop
 returns c =
     let at-loop = c .before in
     let args = at-loop .before .before .before .args in
-    done (args .jobs) (args .rules .now) (args .out .now) (at-loop .loop .k) (at-loop .loop .out) (at-loop .loop .inv) (c .loop-test .left)
+    done (args .jobs) (args .rules .now) (args .out .now) (at-loop .loop .rest) (at-loop .loop .out) (at-loop .loop .inv) (c .loop-test .left)
 
 pub write-blocks-spec : {M : Type 1} → statement M
 write-blocks-spec =
@@ -212,6 +218,8 @@ write-blocks-spec =
     μ-loop
     add-blocks
     loop-holds
+    sub-k
+    sub-rest
     mul-a
     add-e
     mul-from
@@ -224,7 +232,6 @@ write-blocks-spec =
     part-fill-block-start-2
     part-fill-block-end-2
     fill-block-requires
-    add-k
     loop-less
     loop-again
     mul-result

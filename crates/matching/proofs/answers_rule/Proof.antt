@@ -73,14 +73,6 @@ rule-move-requires c κs = search needs
 rule-move-requires-2 : tie.Need-rule-move-requires-2
 rule-move-requires-2 c κs = search needs
 
-returns : tie.Need-returns
-returns c =
-    let start = c .before .before .before .before .before in
-    record {
-      is = sym (unequal-moves (table-of (jobs start) (rs start)) (ns start) (base start) (left start) (right start) (λ e. c .if1 .taken (c .before .before .rule-move .ensures .is ∙ e ∙ sym (c .before .rule-move2 .ensures .is))));
-      kept = kept-same (start .args .top) (buffer start);
-    }
-
 mul-if2 : tie.Need-mul-if2
 mul-if2 c = search needs
 
@@ -161,6 +153,14 @@ returns-3 c =
           ∙ ap (judged t (ns start) (base start) (left start .rest)) (rest-is put)
           ∙ sym (equal-moves t (ns start) (base start) (left start) (right start) (sym (turn .before .before .rule-move .ensures .is) ∙ turn .if1 .left ∙ turn .before .rule-move2 .ensures .is));
       kept = put-keeps (jobs start) (ns start) (buffer start) (start .args .top) (start .args .gap) (behind start) (put .before .before .rule-after .result .now) (put .put-before .last .1 .0) (put .put-before .result) (put .put-before .ensures);
+    }
+
+returns : tie.Need-returns
+returns c =
+    let start = c .before .before .before .before .before in
+    record {
+      is = sym (unequal-moves (table-of (jobs start) (rs start)) (ns start) (base start) (left start) (right start) (λ e. c .if1 .taken (c .before .before .rule-move .ensures .is ∙ e ∙ sym (c .before .rule-move2 .ensures .is))));
+      kept = kept-same (start .args .top) (buffer start);
     }
 
 pub answers-rule-spec : {M : Type 1} → statement M

@@ -42,7 +42,7 @@ loop-again c =
     let l = c .before .before .before .before in
     let s = l .before in (
       omega arith,
-      sym (next-large (s .args .jobs) (s .args .norms .now) (s .pre) (l .loop .refusal) (l .loop .j) (c .before .before .before .loop-test .taken) (c .before .if1 .left) (c .if2 .taken))
+      sym (next-large (s .args .jobs) (s .args .norms .now) (s .pre) (l .loop .refusal) (l .loop .j) (c .before .before .before .loop-test .taken) (c .before .if1 .left) (omega arith))
           ∙ l .loop .inv .1,
     )
 

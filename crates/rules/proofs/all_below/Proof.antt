@@ -46,7 +46,7 @@ returns c =
     let s = at-loop .before in
     let p = s .args .bytes .now in
     sym (sym (at-loop .loop .inv .1) ∙ below-next p (at-loop .loop .k) (s .args .bound) (c .before .before .loop-test .taken)
-    ∙ ap (λ (b : Bool). b && all-below (s .args .bound) (drop (at-loop .loop .k + 1) p)) (le-ltb (getD p (at-loop .loop .k) 0) (s .args .bound) (c .if1 .taken)))
+    ∙ ap (λ (b : Bool). b && all-below (s .args .bound) (drop (at-loop .loop .k + 1) p)) (le-ltb (getD p (at-loop .loop .k) 0) (s .args .bound) (omega arith)))
 
 loop-less : tie.Need-loop-less Inv-loop μ-loop
 loop-less c = omega arith

@@ -59,7 +59,8 @@ run-job-requires c κs =
     let x = c .before .wide in (
       s .pre .0,
       (
-        omega (arith, x .ensures .is, below-at (s .args .jobs) p k (s .pre .1 .0) (there at-test)),
+        subst (λ (j : ℕ). j < s .args .jobs) (sym (x .ensures .is))
+            (below-at (s .args .jobs) p _ (s .pre .1 .0) (omega (arith, at-test .loop-test .taken, at-loop .loop .inv .0))),
         subst (λ (m : ℕ). at-loop .loop .to + getD (norms t) (x .result) 0 ≤ m) (sym (at-loop .loop .inv .1))
             (plan-room t p (s .args .out .now) k (at-loop .loop .to) (at-loop .loop .out) (at-loop .loop .inv .2) (there at-test) (x .result) (x .ensures .is) (s .pre .1 .1)),
       ),

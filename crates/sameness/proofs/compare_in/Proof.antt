@@ -1,5 +1,5 @@
 -- `sameness::compare_in` meets its contract. Assumes nothing.
-use mathlib.Core.Path.{_≡_, ap, _∙_}
+use mathlib.Core.Path.{_≡_, refl, ap, _∙_}
 use mathlib.Core.Bool.{Bool}
 use mathlib.Core.List.{List}
 use Prim.Native.Nat.{ℕ, _≤_}
@@ -14,6 +14,7 @@ use Rattle.answer.proofs.Answers.{gives-refused, gives-done}
 use Rattle.image.specs.Image.{table-in}
 use Rattle.table.specs.CallRefusals.{two-plans}
 use Rattle.table.proofs.HeldTables.{Ready, plans-chain, plans-ready}
+use Rattle.workspace.proofs.UsablePart.{front-cleared}
 use Rattle.workspace.proofs.WithSpace.{space-chain, space-passed}
 use Rattle.sameness.proofs.compare_in.Statement.{statement}
 use Rattle.sameness.proofs.compare_in.Tie as tie
@@ -38,42 +39,49 @@ module _ (c : tie.After-or-else2) where
   abbrev q : List ℕ
   q = start .args .right .now
 
-  refusal-is : c .or-else2 .result ≡ with-space (start .args .area .now) (two-plans bs p q)
+  refusal-is : c .or-else2 .result ≡ with-space (start .args .space .now) (two-plans bs p q)
   refusal-is =
-      space-chain (start .args .area .now) (c .before .before .refusal .ensures) (c .or-else2 .ensures)
+      space-chain (start .args .space .now) (c .before .before .refusal .ensures) (c .or-else2 .ensures)
       (plans-chain (loaded .load .ensures) p q (checked .plans-refusal .ensures) (c .before .or-else .ensures))
 
   module _ (z : c .or-else2 .result ≡ 0) where
-    passed : (65536 ≤ length (start .args .area .now)) × (c .before .or-else .result ≡ 0)
-    passed = space-passed (start .args .area .now) (c .before .before .refusal .ensures) (c .or-else2 .ensures) z
+    passed : (65536 ≤ length (start .args .space .now)) × (c .before .or-else .result ≡ 0)
+    passed = space-passed (start .args .space .now) (c .before .before .refusal .ensures) (c .or-else2 .ensures) z
 
     ready : let l = loaded .load .result in Ready (table-in bs) (l .jobs) (take (l .end) (l .rules)) (l .norms) p × Ready (table-in bs) (l .jobs) (take (l .end) (l .rules)) (l .norms) q
     ready = plans-ready (loaded .load .ensures) p q (checked .plans-refusal .ensures) (c .before .or-else .ensures) (passed .1)
 
 returns : tie.Need-returns
-returns c =
-    gives-refused (refusal-is (c .before .before)) _ (c .before .if1 .taken)
-    (toZ-ofZ w32 (c .refused .result) (record { sfits = c .refused .ok }) ∙ c .refused .ensures)
+returns c = record {
+  answer = gives-refused (refusal-is (c .before .before)) _ (c .before .if1 .taken)
+      (toZ-ofZ w32 (c .refused .result) (record { sfits = c .refused .ok }) ∙ c .refused .ensures);
+  clears = refl;
+}
 
 part-same-end : tie.Need-part-same-end
 part-same-end c =
     let e = c .before .before .before .before .before in
     omega (arith, passed (e .before) (e .if1 .left) .0)
 
-same-requires : tie.Need-same-requires
-same-requires c κs =
-    let e = c .before .before .before .before .before .before in
-    let (k, m) = ready (e .before) (e .if1 .left) in
-    (rw (c .before .before .rules-of .ensures) (k .good), (k .within, (m .within, simp length-take (omega (arith, passed (e .before) (e .if1 .left) .0)))))
-
 returns-2 : tie.Need-returns-2
 returns-2 c =
     let s = c .before .before .before in
     let e = s .before .before .before .before .before .before .before in
     let k = ready (e .before) (e .if1 .left) .0 in
-    gives-done (refusal-is (e .before)) _ (e .if1 .left)
-    (toZ-ofZ w32 (c .one-if .result) (record { sfits = c .one-if .ok }) ∙ c .one-if .ensures
-    ∙ ap (λ (b : Bool). pos (one-if b)) (rw (s .before .before .before .rules-of .ensures, k .is) at (s .same .ensures)))
+    let long = passed (e .before) (e .if1 .left) .0 in
+    record {
+      answer = gives-done (refusal-is (e .before)) _ (e .if1 .left)
+          (toZ-ofZ w32 (c .one-if .result) (record { sfits = c .one-if .ok }) ∙ c .one-if .ensures
+          ∙ ap (λ (b : Bool). pos (one-if b)) (rw (s .before .before .before .rules-of .ensures, k .is) at (s .same .ensures)));
+      clears = front-cleared (start (e .before) .args .space .now) (s .same .last .1 .1 .1 .1 .1 .0) 18336 (omega arith)
+          (s .same .kept .1 .1 .1 .1 .1 .0 ∙ simp length-take (omega (arith, long))) long;
+    }
+
+same-requires : tie.Need-same-requires
+same-requires c κs =
+    let e = c .before .before .before .before .before .before in
+    let (k, m) = ready (e .before) (e .if1 .left) in
+    (rw (c .before .before .rules-of .ensures) (k .good), (k .within, (m .within, simp length-take (omega (arith, passed (e .before) (e .if1 .left) .0)))))
 
 pub compare-in-spec : {M : Type 1} → statement M
 compare-in-spec =

@@ -1,5 +1,5 @@
 -- `sameness::form_in` meets its contract. Assumes nothing.
-use mathlib.Core.Path.{_≡_, _∙_}
+use mathlib.Core.Path.{_≡_, refl, _∙_}
 use mathlib.Core.List.{List}
 use Prim.Native.Nat.{ℕ, _≤_}
 use native.Mathlib.Omega.{arith}
@@ -12,6 +12,7 @@ use Rattle.answer.proofs.Answers.{writes-refused, writes-done}
 use Rattle.image.specs.Image.{table-in}
 use Rattle.table.specs.CallRefusals.{one-plan}
 use Rattle.table.proofs.HeldTables.{Ready, plan-chain, plan-ready}
+use Rattle.workspace.proofs.UsablePart.{front-cleared}
 use Rattle.workspace.proofs.WithSpace.{space-chain, space-passed}
 use Rattle.sameness.proofs.form_in.Statement.{statement}
 use Rattle.sameness.proofs.form_in.Tie as tie
@@ -33,22 +34,24 @@ module _ (c : tie.After-or-else2) where
   abbrev p : List ℕ
   p = start .args .plan .now
 
-  refusal-is : c .or-else2 .result ≡ with-space (start .args .area .now) (one-plan bs p)
+  refusal-is : c .or-else2 .result ≡ with-space (start .args .space .now) (one-plan bs p)
   refusal-is =
-      space-chain (start .args .area .now) (c .before .before .refusal .ensures) (c .or-else2 .ensures)
+      space-chain (start .args .space .now) (c .before .before .refusal .ensures) (c .or-else2 .ensures)
       (plan-chain (loaded .load .ensures) p (checked .plan-refusal .ensures) (c .before .or-else .ensures))
 
   module _ (z : c .or-else2 .result ≡ 0) where
-    passed : (65536 ≤ length (start .args .area .now)) × (c .before .or-else .result ≡ 0)
-    passed = space-passed (start .args .area .now) (c .before .before .refusal .ensures) (c .or-else2 .ensures) z
+    passed : (65536 ≤ length (start .args .space .now)) × (c .before .or-else .result ≡ 0)
+    passed = space-passed (start .args .space .now) (c .before .before .refusal .ensures) (c .or-else2 .ensures) z
 
     ready : let l = loaded .load .result in Ready (table-in bs) (l .jobs) (take (l .end) (l .rules)) (l .norms) p
     ready = plan-ready (loaded .load .ensures) p (checked .plan-refusal .ensures) (c .before .or-else .ensures) (passed .1)
 
 returns : tie.Need-returns
-returns c =
-    writes-refused (refusal-is (c .before .before)) (c .before .if1 .taken)
-    (toZ-ofZ w32 (c .refused .result) (record { sfits = c .refused .ok }) ∙ c .refused .ensures)
+returns c = record {
+  written = writes-refused (refusal-is (c .before .before)) (c .before .if1 .taken)
+      (toZ-ofZ w32 (c .refused .result) (record { sfits = c .refused .ok }) ∙ c .refused .ensures);
+  clears = refl;
+}
 
 part-form-end : tie.Need-part-form-end
 part-form-end c =
@@ -66,8 +69,13 @@ returns-2 c =
     let f = c .before .before .before .before in
     let e = f .before .before .before .before .before .before .before .before in
     let k = ready (e .before) (e .if1 .left) in
-    writes-done (refusal-is (e .before)) (e .if1 .left)
-    (rw (toZ-ofZ w32 (f .form .result) (record { sfits = f .form .ok })) (rw (f .before .before .before .before .rules-of .ensures, k .is) at (f .form .ensures)))
+    let long = passed (e .before) (e .if1 .left) .0 in
+    record {
+      written = writes-done (refusal-is (e .before)) (e .if1 .left)
+          (rw (toZ-ofZ w32 (f .form .result) (record { sfits = f .form .ok })) (rw (f .before .before .before .before .rules-of .ensures, k .is) at (f .form .ensures)));
+      clears = front-cleared (start (e .before) .args .space .now) (f .form .last .1 .1 .1 .1 .1 .0) 18336 (omega arith)
+          (f .form .kept .1 .1 .1 .1 .1 .0 ∙ simp length-take (omega (arith, long))) long;
+    }
 
 pub form-in-spec : {M : Type 1} → statement M
 form-in-spec =
