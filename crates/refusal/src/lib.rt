@@ -73,9 +73,10 @@ pub fn plans_refusal(jobs: usize, norms: &[u16; 24], left: &[u8], right: &[u8]) 
     if left_jobs != 0 {
         return left_jobs;
     }
+    let left_norm = norm_refusal(norms, left);
     let right_jobs = jobs_refusal(jobs, right);
     if right_jobs != 0 {
         return right_jobs;
     }
-    answer::or_else(norm_refusal(norms, left), norm_refusal(norms, right))
+    answer::or_else(left_norm, norm_refusal(norms, right))
 }

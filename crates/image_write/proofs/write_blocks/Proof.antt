@@ -2,8 +2,6 @@
 use mathlib.Core.Path.{_≡_, refl, sym, ap, _∙_}
 use mathlib.Core.List.{List, [], _++_, append-nil, append-assoc}
 use Prim.Native.Nat.{ℕ, suc, _+_, _*_, _-_, _/_, _≤_, _<_, min}
-use native.Mathlib.Nat.{sub-zero}
-use native.Mathlib.Numerals.{add-one}
 use lib.ListN.{length, take, drop, length-append, length-take, length-drop, take-append-drop}
 use lib.Seq.{length-take-le, take-at, drop-drop}
 use borrow.Rule.Slice.PartMut.{putMid, postOf, same-len-mid, drop-put}
@@ -132,52 +130,10 @@ Inv-loop jobs rules out₀ blocks rest₀ out rest = State jobs rules out₀ blo
 abbrev μ-loop : tie.MeasureT-loop
 μ-loop jobs rules out₀ blocks rest₀ out rest = rest
 
-add-blocks : tie.Need-add-blocks Inv-loop μ-loop
-add-blocks c = omega arith
-
 loop-holds : tie.Need-loop-holds Inv-loop μ-loop
 loop-holds c =
     let start = c .before .before in
     begin (start .args .jobs) (start .args .rules .now) (start .args .out .now) (good-list _ _ (start .pre .0)) (start .pre .1)
-
-sub-k : tie.Need-sub-k Inv-loop μ-loop
-sub-k c = omega arith
-
-sub-rest : tie.Need-sub-rest Inv-loop μ-loop
-sub-rest c = omega arith
-
-mul-a : tie.Need-mul-a Inv-loop μ-loop
-mul-a c = omega arith
-
-add-e : tie.Need-add-e Inv-loop μ-loop
-add-e c = omega arith
-
-mul-from : tie.Need-mul-from Inv-loop μ-loop
-mul-from c = omega arith
-
-add-least : tie.Need-add-least Inv-loop μ-loop
-add-least c = omega arith
-
-least-requires : tie.Need-least-requires Inv-loop μ-loop
-least-requires c κs = tt
-
-sub-fill-block : tie.Need-sub-fill-block Inv-loop μ-loop
-sub-fill-block c = omega arith
-
-part-fill-block-start : tie.Need-part-fill-block-start Inv-loop μ-loop
-part-fill-block-start c = omega arith
-
-part-fill-block-end : tie.Need-part-fill-block-end Inv-loop μ-loop
-part-fill-block-end c = omega arith
-
-sub-fill-block-2 : tie.Need-sub-fill-block-2 Inv-loop μ-loop
-sub-fill-block-2 c = omega arith
-
-part-fill-block-start-2 : tie.Need-part-fill-block-start-2 Inv-loop μ-loop
-part-fill-block-start-2 c = omega arith
-
-part-fill-block-end-2 : tie.Need-part-fill-block-end-2 Inv-loop μ-loop
-part-fill-block-end-2 c = omega arith
 
 fill-block-requires : tie.Need-fill-block-requires Inv-loop μ-loop
 fill-block-requires c κs = record {
@@ -185,9 +141,6 @@ fill-block-requires c κs = record {
   few-rules = simp (length-take, length-drop) (omega (arith, c .before .before .least .ensures));
   few-jobs = omega arith;
 }
-
-loop-less : tie.Need-loop-less Inv-loop μ-loop
-loop-less c = omega arith
 
 loop-again : tie.Need-loop-again Inv-loop μ-loop
 loop-again c =
@@ -197,9 +150,6 @@ loop-again c =
     next (args .jobs) (args .rules .now) (args .out .now) (at-loop .loop .rest) (at-loop .loop .out) (at-loop .loop .inv)
     (turned .before .loop-test .taken) (turned .least .result) (turned .least .ensures)
     (c .before .before .fill-block .last .1 .1 .1 .1 .0) (c .before .before .fill-block .ensures)
-
-mul-result : tie.Need-mul-result Inv-loop μ-loop
-mul-result c = omega arith
 
 same-length : tie.Need-same-length Inv-loop μ-loop
 same-length c = c .before .loop .inv .size
@@ -216,24 +166,24 @@ write-blocks-spec =
     (tie.spec
     Inv-loop
     μ-loop
-    add-blocks
+    (λ c. omega arith)  -- add-blocks
     loop-holds
-    sub-k
-    sub-rest
-    mul-a
-    add-e
-    mul-from
-    add-least
-    least-requires
-    sub-fill-block
-    part-fill-block-start
-    part-fill-block-end
-    sub-fill-block-2
-    part-fill-block-start-2
-    part-fill-block-end-2
+    (λ c. omega arith)  -- sub-k
+    (λ c. omega arith)  -- sub-rest
+    (λ c. omega arith)  -- mul-a
+    (λ c. omega arith)  -- add-e
+    (λ c. omega arith)  -- mul-from
+    (λ c. omega arith)  -- add-least
+    (λ c κs. tt)  -- least-requires
+    (λ c. omega arith)  -- sub-fill-block
+    (λ c. omega arith)  -- part-fill-block-start
+    (λ c. omega arith)  -- part-fill-block-end
+    (λ c. omega arith)  -- sub-fill-block-2
+    (λ c. omega arith)  -- part-fill-block-start-2
+    (λ c. omega arith)  -- part-fill-block-end-2
     fill-block-requires
-    loop-less
+    (λ c. omega arith)  -- loop-less
     loop-again
-    mul-result
+    (λ c. omega arith)  -- mul-result
     same-length
     returns)
