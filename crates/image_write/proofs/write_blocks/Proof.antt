@@ -135,13 +135,6 @@ loop-holds c =
     let start = c .before .before in
     begin (start .args .jobs) (start .args .rules .now) (start .args .out .now) (good-list _ _ (start .pre .0)) (start .pre .1)
 
-fill-block-requires : tie.Need-fill-block-requires Inv-loop μ-loop
-fill-block-requires c κs = record {
-  whole = simp (length-take, length-drop) (omega arith);
-  few-rules = simp (length-take, length-drop) (omega (arith, c .before .before .least .ensures));
-  few-jobs = omega arith;
-}
-
 loop-again : tie.Need-loop-again Inv-loop μ-loop
 loop-again c =
     let turned = c .before .before .before .before .before in
@@ -150,6 +143,13 @@ loop-again c =
     next (args .jobs) (args .rules .now) (args .out .now) (at-loop .loop .rest) (at-loop .loop .out) (at-loop .loop .inv)
     (turned .before .loop-test .taken) (turned .least .result) (turned .least .ensures)
     (c .before .before .fill-block .last .1 .1 .1 .1 .0) (c .before .before .fill-block .ensures)
+
+fill-block-requires : tie.Need-fill-block-requires Inv-loop μ-loop
+fill-block-requires c κs = record {
+  whole = simp (length-take, length-drop) (omega arith);
+  few-rules = simp (length-take, length-drop) (omega (arith, c .before .before .least .ensures));
+  few-jobs = omega arith;
+}
 
 same-length : tie.Need-same-length Inv-loop μ-loop
 same-length c = c .before .loop .inv .size
