@@ -1,5 +1,5 @@
 -- The first line, of a table that was loaded or of its refusal. Assumes nothing.
-use mathlib.Core.Path.{_≡_, refl, sym, ap, ap₂, subst, _∙_}
+use mathlib.Core.Path.{_≡_, refl, sym, ap, ap₂, _∙_}
 use mathlib.Core.List.{List}
 use Prim.Native.Nat.{ℕ, zero, suc, _/_}
 use native.Mathlib.Omega.{arith}
@@ -8,11 +8,9 @@ use Rattle.bpa.specs.Plans.{Table}
 use Rattle.image.specs.Image.{image-refusal, table-in}
 use Rattle.table.specs.Tables.{Loads}
 use Rattle.table.proofs.HeldTables.{held-jobs, held-rules}
-use Rattle.look.specs.Lines.{IsLine, refused-line, table-line}
+use Rattle.look_lines.specs.Lines.{IsLine, refused-line, table-line}
+use Rattle.look_lines.proofs.Puts.{line-as}
 use Rattle.look.specs.Reports.{first-line, jobs-shown, TableReport}
-
-line-as : {bs cs xs ys : List ℕ} {r : ℕ} → bs ≡ cs → IsLine bs xs r ys → IsLine cs xs r ys
-line-as {bs} {cs} {xs} {ys} {r} e l = subst (λ (b : List ℕ). IsLine b xs r ys) e l
 
 refused : (n : ℕ) (t : Table) → (n ≡ 0 → ⊥) → (refused-line n ≡ first-line n t) × (0 ≡ jobs-shown n t)
 unfolding first-line jobs-shown

@@ -24,7 +24,7 @@ use Rattle.answer.proofs.Results.{result-written}
 use Rattle.table.proofs.ImageTables.{image-table}
 use Rattle.workspace.proofs.UsablePart.{long-passes}
 use Rattle.table.specs.CallRefusals.{one-plan}
-use Rattle.look.specs.Numbers.{result-in}
+use Rattle.look_lines.specs.Numbers.{result-in}
 
 -- a call with a workspace that is long enough answers as if it had none
 module _ (s : List ℕ) (h : 65536 ≤ length s) where

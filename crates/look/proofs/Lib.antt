@@ -1,7 +1,4 @@
--- Laws of the program's lines.
-pub mod Numbers
-pub mod Answers
-pub mod Puts
-pub mod Parts
+-- Laws of what the library answers, and of a pair's line.
 pub mod JobAnswers
 pub mod FirstLine
+pub mod PairLine

@@ -1,5 +1,2 @@
--- What planlook reads and prints.
-pub mod Numbers
-pub mod Lines
+-- What planlook prints of an image and of pairs.
 pub mod Reports
-pub mod Input

@@ -1,16 +1,13 @@
 // The program planlook: an image and pairs of plans from standard input; a line for the table, for each job and for each
 // pair to standard output. What is put into a line is proved; that it is written, no contract can say.
-mod input;
-mod lines;
 mod reports;
 
-use input::Got;
 use libc::STDOUT_FILENO;
 
 // The whole run.
 pub fn run() {
     let mut image = [0u8; 2048];
-    let size = input::read_image(&mut image);
+    let size = look_input::read_image(&mut image);
     if show_table(&image[0..size]) {
         show_pairs(&image[0..size]);
     }
@@ -51,7 +48,7 @@ fn show_job(image: &[u8], job: u8) -> bool {
 fn show_pairs(image: &[u8]) {
     let mut pair = 1u64;
     while pair < u64::MAX {
-        if next_pair(image, pair) {
+        if show_pair(image, pair) {
             pair += 1;
         } else {
             return;
@@ -59,36 +56,14 @@ fn show_pairs(image: &[u8]) {
     }
 }
 
-// A pair, if there is one. Says whether another may follow.
-fn next_pair(image: &[u8], pair: u64) -> bool {
-    let mut left = [0u8; 4096];
-    match input::read_plan(&mut left) {
-        Got::Plan(size) => right_plan(image, pair, &left[0..size]),
-        Got::Long => stop(b"long\n"),
-        Got::Cut => stop(b"cut\n"),
-        Got::End => false,
-    }
-}
-
-// A pair whose left plan is read. Says whether another may follow.
-fn right_plan(image: &[u8], pair: u64, left: &[u8]) -> bool {
-    let mut right = [0u8; 4096];
-    match input::read_plan(&mut right) {
-        Got::Plan(size) => show_pair(image, pair, left, &right[0..size]),
-        Got::Long => stop(b"long\n"),
-        _ => stop(b"cut\n"),
-    }
-}
-
-// A pair. Says whether it was written.
-fn show_pair(image: &[u8], pair: u64, left: &[u8], right: &[u8]) -> bool {
+// The next pair, if there is one. Says whether another may follow.
+fn show_pair(image: &[u8], pair: u64) -> bool {
+    let mut input = [0u8; 8196];
     let mut line = [0u8; 64];
-    let size = reports::pair_report(image, pair, left, right, &mut line);
-    io::write_all(STDOUT_FILENO, &line[0..size])
-}
-
-// The word at which the run ends: no pair follows.
-fn stop(word: &[u8]) -> bool {
-    let written = io::write_all(STDOUT_FILENO, word);
+    let next = reports::next_line(image, pair, &mut input, &mut line);
+    let size = next.size;
+    if io::write_all(STDOUT_FILENO, &line[0..size]) {
+        return next.again;
+    }
     false
 }

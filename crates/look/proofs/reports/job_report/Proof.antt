@@ -13,9 +13,9 @@ use Rattle.image.specs.Image.{table-in}
 use Rattle.answer.specs.Answer.{signed, Writes}
 use Rattle.bpa.specs.Norms.{norm}
 use Rattle.table.specs.CallRefusals.{one-plan}
-use Rattle.look.specs.Numbers.{result-in}
-use Rattle.look.specs.Lines.{job-line}
-use Rattle.look.proofs.Puts.{put-as}
+use Rattle.look_lines.specs.Numbers.{result-in}
+use Rattle.look_lines.specs.Lines.{job-line}
+use Rattle.look_lines.proofs.Puts.{put-as}
 use Rattle.look.proofs.JobAnswers.{written, result-within, norm-shown, form-shown}
 use Rattle.look.proofs.reports.job_report.Statement.{statement}
 use Rattle.look.proofs.reports.job_report.Tie as tie
@@ -43,36 +43,6 @@ norm-is c =
     let n = c .before .before .before .before .before .before .before .before .plan-norm in
     c .result-in2 .ensures ∙ ap result-in (toZ-ofZ w32 (n .result) (record { sfits = n .ok }) ∙ n .ensures)
 
-slice-aggregate-plan-norm : tie.Need-slice-aggregate-plan-norm
-slice-aggregate-plan-norm c = search needs
-
-plan-norm-requires : tie.Need-plan-norm-requires
-plan-norm-requires c κs = search needs
-
-slice-aggregate-prime-form : tie.Need-slice-aggregate-prime-form
-slice-aggregate-prime-form c = search needs
-
-slice-aggregate-prime-form-2 : tie.Need-slice-aggregate-prime-form-2
-slice-aggregate-prime-form-2 c = search needs
-
-slice-aggregate-prime-form-3 : tie.Need-slice-aggregate-prime-form-3
-slice-aggregate-prime-form-3 c = search needs
-
-prime-form-requires : tie.Need-prime-form-requires
-prime-form-requires c κs = search needs
-
-result-in-requires : tie.Need-result-in-requires
-result-in-requires c κs = search needs
-
-result-in-requires-2 : tie.Need-result-in-requires-2
-result-in-requires-2 c κs = search needs
-
-sub-job-line : tie.Need-sub-job-line
-sub-job-line c = search needs
-
-part-job-line-start : tie.Need-part-job-line-start
-part-job-line-start c = search needs
-
 part-job-line-end : tie.Need-part-job-line-end
 part-job-line-end c =
     omega (arith, size-fits (c .before .before), c .before .before .before .before .before .prime-form .kept .1 .1 .0)
@@ -82,9 +52,6 @@ job-line-requires c κs =
     let r = c .before .before .before .before in
     let f = c .before .before .before .before .before .before .before .prime-form .last .1 .1 .0 in
     omega (arith, size-fits r, length-take (r .result-in .result - 0) f, c .before .before .before .before .before .before .before .before .before .before .before .before .before .before .before .pre)
-
-same-length : tie.Need-same-length
-same-length c = search needs
 
 returns : tie.Need-returns
 returns c =
@@ -105,17 +72,17 @@ pub job-report-spec : {M : Type 1} → statement M
 job-report-spec =
     tie.close
     (tie.spec
-    slice-aggregate-plan-norm
-    plan-norm-requires
-    slice-aggregate-prime-form
-    slice-aggregate-prime-form-2
-    slice-aggregate-prime-form-3
-    prime-form-requires
-    result-in-requires
-    result-in-requires-2
-    sub-job-line
-    part-job-line-start
+    (λ c. search needs)  -- slice-aggregate-plan-norm
+    (λ c κs. search needs)  -- plan-norm-requires
+    (λ c. search needs)  -- slice-aggregate-prime-form
+    (λ c. search needs)  -- slice-aggregate-prime-form-2
+    (λ c. search needs)  -- slice-aggregate-prime-form-3
+    (λ c κs. search needs)  -- prime-form-requires
+    (λ c κs. search needs)  -- result-in-requires
+    (λ c κs. search needs)  -- result-in-requires-2
+    (λ c. search needs)  -- sub-job-line
+    (λ c. search needs)  -- part-job-line-start
     part-job-line-end
     job-line-requires
-    same-length
+    (λ c. search needs)  -- same-length
     returns)

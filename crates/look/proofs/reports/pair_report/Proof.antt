@@ -3,23 +3,11 @@ use mathlib.Core.Path.{subst, _∙_}
 use lib.IntN.{ℤ}
 use mir.Syntax.{w32}
 use mir.ValLaws.{toZ-ofZ}
-use Rattle.look.specs.Lines.{IsLine, pair-line}
+use Rattle.look_lines.specs.Lines.{IsLine, pair-line}
 use Rattle.look.proofs.JobAnswers.{given}
 use borrow.Author.Needs.{needs}
 use Rattle.look.proofs.reports.pair_report.Statement.{statement}
 use Rattle.look.proofs.reports.pair_report.Tie as tie
-
-slice-aggregate-compare : tie.Need-slice-aggregate-compare
-slice-aggregate-compare c = search needs
-
-compare-requires : tie.Need-compare-requires
-compare-requires c κs = search needs
-
-pair-line-requires : tie.Need-pair-line-requires
-pair-line-requires c κs = search needs
-
-same-length : tie.Need-same-length
-same-length c = search needs
 
 returns : tie.Need-returns
 returns c =
@@ -32,4 +20,9 @@ returns c =
 pub pair-report-spec : {M : Type 1} → statement M
 pair-report-spec =
     tie.close
-    (tie.spec slice-aggregate-compare compare-requires pair-line-requires same-length returns)
+    (tie.spec
+    (λ c. search needs)  -- slice-aggregate-compare
+    (λ c κs. search needs)  -- compare-requires
+    (λ c κs. search needs)  -- pair-line-requires
+    (λ c. search needs)  -- same-length
+    returns)

@@ -1,0 +1,3 @@
+-- Laws of what is read.
+pub mod Reading
+pub mod Plans

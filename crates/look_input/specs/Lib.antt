@@ -1,0 +1,2 @@
+-- What planlook reads.
+pub mod Input

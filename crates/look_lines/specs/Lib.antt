@@ -1,0 +1,3 @@
+-- What planlook prints.
+pub mod Numbers
+pub mod Lines
