@@ -39,18 +39,15 @@ right-ended Long h = refl
 right-ended (Plan n) h = absurd (not-plan n h)
 
 module _ (bs : List ℕ) (k : ℕ) (i : List ℕ) (l r : Got) (p : PairRead l r i) {line line′ : List ℕ} {size : ℕ} where
-  ends : (g : Got) → pair-got l r ≡ g → whole g ≡ false → IsLine (end-line g) line size line′ → NextLine bs k i line size false line′
+  -- by whether the pair is whole
+  line-is : (b : Bool) → whole (pair-got l r) ≡ b →
+      IsLine (cond b (pair-line k (compare-answer bs (plan-in (left-part i)) (plan-in (right-part i)))) (end-line (pair-got l r))) line size line′ →
+      NextLine bs k i line size b line′
   unfolding line-of
-  ends g e w h =
-      let f = ap whole e ∙ w in
-      let a = pair-line k (compare-answer bs (plan-in (left-part i)) (plan-in (right-part i))) in
-      record {
-        left = l;
-        right = r;
-        read = p;
-        is-line = line-as (sym (ap₂ (λ (b : Bool) (x : Got). cond b a (end-line x)) f e)) h;
-        again-is = sym f;
-      }
+  line-is b f h = record { left = l; right = r; read = p; is-line = rw f h; again-is = sym f }
+
+  ends : (g : Got) → pair-got l r ≡ g → whole g ≡ false → IsLine (end-line g) line size line′ → NextLine bs k i line size false line′
+  ends g e w h = line-is false (ap whole e ∙ w) (line-as (ap end-line (sym e)) h)
 
   pub ends-left : Ended l → IsLine (end-line l) line size line′ → NextLine bs k i line size false line′
   ends-left o h = let (e, w) = left-ended l r o in ends l e w h
@@ -61,21 +58,10 @@ module _ (bs : List ℕ) (k : ℕ) (i : List ℕ) (l r : Got) (p : PairRead l r 
 
   pub both-whole : (n m : ℕ) → l ≡ Plan n → r ≡ Plan m →
       PairReport bs k (take ((2 + n) - 2) (drop 2 i)) (take ((4100 + m) - 4100) (drop 4100 i)) line size line′ → NextLine bs k i line size true line′
-  unfolding line-of pair-got whole
+  unfolding pair-got whole
   both-whole n m d e h =
-      let f : whole (pair-got l r) ≡ true = ap₂ (λ (x y : Got). whole (pair-got x y)) d e in
       let a : (2 + n) - 2 ≡ n = omega arith in
       let b : (4100 + m) - 4100 ≡ m = omega arith in
       let p-is = ap (λ (x : ℕ). take x (drop 2 i)) a ∙ left-plan n i (subst (λ (g : Got). Reads g (left-part i)) d (p .left-read)) in
       let q-is = ap (λ (x : ℕ). take x (drop 4100 i)) b ∙ right-plan m i (subst (λ (g : Got). Reads g (right-part i)) e (p .right-read)) in
-      record {
-        left = l;
-        right = r;
-        read = p;
-        is-line =
-            line-as
-            (ap₂ (λ (x y : List ℕ). pair-line k (compare-answer bs x y)) p-is q-is
-            ∙ sym (ap (λ (b : Bool). cond b (pair-line k (compare-answer bs (plan-in (left-part i)) (plan-in (right-part i)))) (end-line (pair-got l r))) f))
-            h;
-        again-is = sym f;
-      }
+      line-is true (ap₂ (λ (x y : Got). whole (pair-got x y)) d e) (line-as (ap₂ (λ (x y : List ℕ). pair-line k (compare-answer bs x y)) p-is q-is) h)

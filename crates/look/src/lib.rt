@@ -1,5 +1,6 @@
 // The program planlook: an image and pairs of plans from standard input; a line for the table, for each job and for each
-// pair to standard output. What is put into a line is proved; that it is written, no contract can say.
+// pair to standard output. What is put into a line, and of which bytes that were read, is proved; that it is written, no
+// contract can say.
 mod reports;
 
 use libc::STDOUT_FILENO;

@@ -11,9 +11,16 @@ use Rattle.area.specs.Numbers.{number-at}
 use Rattle.look_input.specs.declared.Got.{Got}
 use Rattle.look_input.specs.declared.Got.the-variants.{End, Cut, Long, Plan}
 
--- the size of an image by its first block, which says at 508 how many blocks there are: 1 to 4, else there is no image
+-- the size of an image by its first block, which has the number of blocks at 508: 1 to 4, else there is no image
 unfoldable pub image-size : (area : List ℕ) → ℕ
 image-size bs = cond (leb (number-at 508 bs) 4) (512 * number-at 508 bs) 0
+
+-- the same once `count` bytes of that block came, and the size of an image once `count` of its bytes did: 0 where some are missing
+unfoldable pub block-got : (count : ℕ) → (area : List ℕ) → ℕ
+block-got k bs = cond (ltb k 512) 0 (image-size bs)
+
+unfoldable pub image-got : (count size : ℕ) → ℕ
+image-got k n = cond (ltb k n) 0 n
 
 -- AN IMAGE THAT WAS READ has the size that its first block says; 0 is none
 pub record ImageRead (area : List ℕ) (r : ℕ) : Type 0 where
@@ -34,7 +41,7 @@ left-part i = take 4098 i
 abbrev pub right-part : (input : List ℕ) → List ℕ
 right-part i = take 4098 (drop 4098 i)
 
--- what a length says of which so many bytes came, and what stands there if so many jobs came of its plan
+-- what stands where a plan should be, once `count` bytes of its length came, and once `count` of its jobs did
 unfoldable pub length-got : (count length : ℕ) → Got
 length-got zero n = End
 length-got (suc zero) n = Cut

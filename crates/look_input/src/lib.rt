@@ -3,7 +3,7 @@ use libc::STDIN_FILENO;
 ghost use mathlib.Core.Path.{_≡_};
 ghost use Prim.Native.Nat.{_≤_};
 ghost use lib.ListN.{length};
-ghost use Rattle.look_input.specs.Input.{image-size, ImageRead, plan-length, length-got, jobs-got, right-end, Reads, PairRead};
+ghost use Rattle.look_input.specs.Input.{block-got, image-got, ImageRead, plan-length, length-got, jobs-got, right-end, Reads, PairRead};
 
 // What stands where a plan should begin.
 pub enum Got {
@@ -17,19 +17,29 @@ pub enum Got {
     Plan(usize),
 }
 
-// What stands where the two plans of a pair should be. A right plan is looked for behind a whole left one.
+// What stands where the two plans of a pair should be. A right plan is looked for only behind a whole left one.
 pub struct Pair {
     pub left: Got,
     pub right: Got,
 }
 
-// The size of an image by its first block; 0 where that is not one of 1 to 4 blocks.
-fn image_size(area: &[u8]) -> usize
+// The size of an image by its first block, once `count` bytes of that came; 0 where that block is not whole or not one of 1 to 4.
+fn block_got(count: usize, area: &[u8]) -> usize
     requires { ⌜ 512 ≤ length (now area) ⌝ }
-    ensures { λ r. ⌜ (r ≡ image-size (now (area .entry))) × (r ≤ 2048) ⌝ }
+    ensures { λ r. ⌜ (r ≡ block-got count (now (area .entry))) × (r ≤ 2048) ⌝ }
 {
+    if count < 512 {
+        return 0;
+    }
     let blocks = area::number_at(508, area);
     if blocks <= 4 { 512 * blocks } else { 0 }
+}
+
+// The size of an image once `count` of its bytes came; 0 where it is not whole.
+fn image_got(count: usize, size: usize) -> usize
+    ensures { λ r. ⌜ r ≡ image-got count size ⌝ }
+{
+    if size <= count { size } else { 0 }
 }
 
 // Reads an image to the front of an area, and gives its size; 0 where it is not 1 to 4 whole blocks.
@@ -37,20 +47,16 @@ pub fn read_image(area: &mut [u8]) -> usize
     requires { ⌜ 2048 ≤ length (now area) ⌝ }
     ensures { λ r. ⌜ ImageRead (now (area .exit)) r ⌝ }
 {
-    if io::read_full(STDIN_FILENO, &mut area[0..512]) < 512 {
-        return 0;
-    }
-    let size = image_size(area);
+    let first = io::read_full(STDIN_FILENO, &mut area[0..512]);
+    let size = block_got(first, area);
     if size < 512 {
         return 0;
     }
-    if io::read_full(STDIN_FILENO, &mut area[512..size]) < size - 512 {
-        return 0;
-    }
-    size
+    let others = io::read_full(STDIN_FILENO, &mut area[512..size]);
+    image_got(512 + others, size)
 }
 
-// What a plan's length says, of which so many bytes came.
+// What stands where a plan should be, once `count` bytes of its length came.
 fn length_got(count: usize, part: &[u8]) -> Got
     requires { ⌜ 2 ≤ length (now part) ⌝ }
     ensures { λ r. ⌜ r ≡ length-got count (plan-length (now (part .entry))) ⌝ }
@@ -69,7 +75,7 @@ fn length_got(count: usize, part: &[u8]) -> Got
     }
 }
 
-// What stands where a plan of a size should, of which so many jobs came.
+// What stands where a plan of a size should be, once `count` of its jobs came.
 fn jobs_got(count: usize, size: usize) -> Got
     ensures { λ r. ⌜ r ≡ jobs-got count size ⌝ }
 {
