@@ -11,8 +11,9 @@
  *    any other answer is 0 or more and is named at the call.
  *  - makes its checks in the order of the refusals' numbers, each one over all blocks of the image, or
  *    over the left and then the right plan, before the next. The first that fails is the answer.
- *  - keeps nothing: no memory is allocated, no variable outlives the call, and the same input gives the
- *    same answer and the same bytes. Any number of threads may call at once, each on areas of its own.
+ *  - keeps nothing: no memory is allocated and no variable outlives the call. The same input gives the same
+ *    answer and the same bytes; only which of a plan's shortest runs is written is not promised.
+ *    Any number of threads may call at once, each on areas of its own.
  *
  * AREAS
  *  - An area is a pointer to as many bytes as its length says. Areas of any length are accepted.
@@ -103,7 +104,7 @@ int32_t gindrazoma_plan_norm(const uint8_t *image, size_t image_len, const uint8
 
 /*
  * A shortest run of a plan: writes moves, one byte each, that lead from the plan to the empty plan and
- * are as many as its norm. Which of the shortest runs is not promised, but equal input gives an equal run.
+ * are as many as its norm. Which of the shortest runs is not promised.
  *
  * Answer: the bytes written, which is the norm, 0 to 4,096.
  * Refusals: 2, 3, 4, 5, 6, 7, 8, 9, 10.

@@ -1,6 +1,6 @@
 #!/bin/sh
-# names.sh ARCHIVE: the places that name calls, refusals, limits and the version agree with the header. Each comparison is
-# one case; one that fails says what stands in one of its two places only.
+# names.sh ARCHIVE: the places that name calls, refusals, limits and the version agree with the header, and those that name promises
+# and edits with one another. Each comparison is one case; one that fails says what stands in one of its two places only.
 set -u
 export LC_ALL=C
 header=include/gindrazoma.h
@@ -136,6 +136,33 @@ for manual in man/*; do
     sed -n 's/^\.TH .*"gindrazoma \([0-9.]*\)".*/\1/p' "$manual" >"$work/title"
     version "$manual" "$work/title"
 done
+
+# ---- promises: each statement is a field of the record that the gate proves, its term has its name, and docs/PROOFS.md has it
+
+promises=crates/promises
+for file in "$promises"/specs/*.antt; do
+    module=$(basename "$file" .antt | tr '[:upper:]' '[:lower:]')
+    sed -n "s/^unfoldable pub \\([A-Z][A-Za-z0-9-]*\\) : Type [01]\$/\\1 $module.\\1/p" "$file" |
+        awk '{ print tolower($1), $2 }'
+done >"$work/statements"
+sed -n 's/^  pub \([a-z0-9-]*\) : \([a-z]*\.[A-Z][A-Za-z0-9-]*\)$/\1 \2/p' "$promises/specs/EveryPromise.antt" >"$work/fields"
+awk '{ print $1 " = " tolower($2) ";" }' "$work/statements" >"$work/owed"
+sed -n 's/^  \([a-z0-9-]* = .*;\)$/\1/p' "$promises/proofs/EveryPromise.antt" >"$work/terms"
+sed 's/.*\.//' "$work/statements" >"$work/names"
+awk '/^## The promises/ { inside = 1; next } /^## / { inside = 0 } inside && /^[|] `/' docs/PROOFS.md |
+    cut -d '|' -f 2 | tr -cs 'A-Za-z0-9-' '[\n*]' | sed '/^$/d' >"$work/document"
+
+compare promises "their statements" "$work/statements" "the fields of EveryPromise" "$work/fields"
+compare promises "their statements" "$work/owed" "the terms" "$work/terms"
+compare promises "their statements" "$work/names" docs/PROOFS.md "$work/document"
+
+awk '/^## What a wrong program/ { inside = 1; next } /^## / { inside = 0 } inside' docs/PROOFS.md |
+    tr -cs 'a-z0-9_/' '[\n*]' | grep -E '^[a-z_]+/[a-z0-9_]+$' | sort -u >"$work/document"
+sed 's|\(.*\)/\(.*\)|crates/\1/must-fail/\2.edit|' "$work/document" | while read -r file; do
+    [ -f "$file" ] && echo "$file"
+done | sed 's|crates/\(.*\)/must-fail/\(.*\).edit|\1/\2|' >"$work/edits"
+
+compare "must-fail edits" docs/PROOFS.md "$work/document" "the crates" "$work/edits"
 
 # ---- no document names what the header does not have
 

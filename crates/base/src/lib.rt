@@ -1,4 +1,4 @@
-// The base: all pairs of ordered jobs at first, then those that fit, in passes that drop a pair as soon as it does not fit.
+// The base: at first the pairs of ordered jobs whose marks are equal, then those that fit, in passes that drop a pair as soon as it does not fit.
 use area::put_zeros;
 use area::wide;
 use fitting::fits;

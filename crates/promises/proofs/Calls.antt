@@ -1,31 +1,42 @@
--- EVERY PROMISE about the bytes that the calls write, with its proved term. Assumes nothing.
-use mathlib.Core.Path.{_≡_, sym, ap, _∙_}
+-- The promises about the numbers that the calls give back and the bytes that they write, each with its proved term. Assumes nothing.
+use mathlib.Core.Path.{_≡_, refl, sym, ap, subst, _∙_}
 use mathlib.Core.Bool.{true}
-use mathlib.Core.List.{List, [], _∷_}
+use mathlib.Core.List.{List, [], _∷_, cons≢nil}
 use mathlib.Core.Logic.{_↔_}
-use Prim.Native.Nat.{ℕ, suc, _-_}
+use Prim.Native.Nat.{ℕ, suc, _-_, _≤_, _<_}
 use native.Mathlib.Omega.{arith}
+use lib.IntN.{pos}
 use lib.ListN.{length, getD, take, drop}
-use Rattle.bpa.specs.Bisimilar.{Bisimilar}
+use Rattle.bpa.specs.Plans.{Runs, moves}
+use Rattle.bpa.specs.Norms.{norms, norm, Fewest}
+use Rattle.bpa.specs.Bisimilar.{Bisimilar, Form}
 use Rattle.bpa.specs.Method.{same, prime-form}
 use Rattle.bpa.proofs.Basics.Cases.{by-test, never-both}
-use Rattle.bpa.proofs.Answers.{same-exact, same-forms}
+use Rattle.bpa.proofs.Norm.NormFewest.{norm-fewest}
+use Rattle.bpa.proofs.Base.MethodDecides.{equivalent-bisimilar}
+use Rattle.bpa.proofs.Forms.FormMeaning.{stands-lowest}
+use Rattle.bpa.proofs.Answers.{same-exact, same-forms, form-exists, form-single, form-longest, lowest-own-form}
 use Rattle.rules.specs.Places.{table-bytes}
 use Rattle.answer.specs.Refusals.{space-refusal}
 use Rattle.answer.specs.Answer.{one-if, Writes, with-space}
-use Rattle.answer.proofs.RefusalChains.{neither}
+use Rattle.answer.proofs.RefusalChains.{neither, both-pass}
 use Rattle.answer.proofs.Results.{result-is, one-yes, one-no, written-result, result-written}
-use Rattle.refusal.specs.Refusals.{plan-refusal, plans-refusal}
+use Rattle.refusal.specs.Refusals.{plan-refusal, plans-refusal, Accepted, AcceptedPlan}
 use Rattle.refusal.proofs.PlanRefusals.{accepted-plan, accepted-plans}
 use Rattle.image.specs.Image.{image-refusal, image-jobs, image-places, table-in}
 use Rattle.image.specs.Writing.{write-refusal, written}
 use Rattle.image.proofs.TableBytes.{bytes-of-image}
 use Rattle.image.proofs.ImageBack as images
 use Rattle.image.proofs.TableBack as tables
+use Rattle.moves.specs.Moves.{move-bytes}
+use Rattle.moves.proofs.NoSuchMove.{no-such-move}
 use Rattle.table.specs.CallRefusals.{one-plan, two-plans}
+use Rattle.table.proofs.ImageTables.{image-passes, image-table}
+use Rattle.sameness.specs.SamenessCalls.{Formed}
 use Rattle.promises.specs.Promises.{all-bytes}
 use Rattle.promises.specs.Calls as promised
-use Rattle.table.proofs.ImageTables.{image-passes, image-table}
+use Rattle.promises.proofs.ExactRefusals.{job-passed, space-passed}
+use Rattle.promises.proofs.ListedMoves.{listed-step, step-listed}
 
 -- a job count and the rest of what was read
 parts : (n j : ℕ) (o ps : List ℕ) → n ≡ suc (length ps) → take n o ≡ j ∷ ps → (getD o 0 0 ≡ j) × (take (n - 1) (drop 1 o) ≡ ps)
@@ -60,6 +71,67 @@ table-survives jobs rs o o′ u u′ n r w v l =
     let m = result-written (image-refusal (written jobs rs)) (table-bytes (table-in (written jobs rs))) u r u′ z (rw e l) k in
     rw e at m
 
+-- a call about one plan that gives back a result has an accepted table and an accepted plan
+record AcceptedBoth (bs p : List ℕ) : Type 0 where
+  table : Accepted (table-in bs)
+  plan : AcceptedPlan (table-in bs) p
+
+accepted-both : (bs p : List ℕ) → one-plan bs p ≡ 0 → AcceptedBoth bs p
+accepted-both bs p h =
+    let (i, k) = neither (image-refusal bs) (plan-refusal (table-in bs) p) h in
+    record { table = image-table bs i; plan = accepted-plan (table-in bs) p k }
+
+pub norm-given : promised.Norm-given
+unfolding promised.Norm-given
+norm-given bs p n w =
+    let t = table-in bs in
+    let (f, v) = result-is (one-plan bs p) (norm t p) n w in
+    let a = accepted-both bs p f in
+    subst (Fewest t p) (sym v) (norm-fewest t (a .table .good) p (a .plan .over-table))
+
+pub run-written : promised.Run-written
+unfolding promised.Run-written
+run-written bs p o o′ n w =
+    let t = table-in bs in
+    let s = written-result (one-plan bs p) (w .run) o o′ n (w .written) in
+    let a = accepted-both bs p (s .passed) in
+    let run = w .shortest (s .passed) in (
+      subst (λ (x : List ℕ). Runs t p x []) (sym (s .bytes)) (run .runs),
+      ap length (s .bytes) ∙ sym (s .count),
+      subst (Fewest t p) (sym (s .count ∙ run .count)) (norm-fewest t (a .table .good) p (a .plan .over-table)),
+    )
+
+-- a list has no length exactly if it is empty
+no-length : (xs : List ℕ) → (length xs ≡ 0) ↔ (xs ≡ [])
+no-length [] = (λ e. refl, λ e. refl)
+no-length (x ∷ xs) = (λ e. absurd (omega arith), λ e. absurd (cons≢nil e))
+
+pub move-written : promised.Move-written
+unfolding promised.Move-written
+move-written bs p o o′ i n w =
+    let t = table-in bs in
+    let bytes = move-bytes (moves t p) i in
+    let s = written-result (one-plan bs p) bytes o o′ n w in
+    let none = no-such-move t p i in (
+      s .bytes,
+      (
+        (λ e. none .0 (no-length bytes .0 (sym (s .count) ∙ e))),
+        (λ h. s .count ∙ no-length bytes .1 (none .1 h)),
+      ),
+      λ l. let (a, q, e, step) = listed-step t p i (subst (λ (m : ℕ). 0 < m) (s .count) l) in (a, q, s .bytes ∙ e, step),
+    )
+
+pub steps-written : promised.Steps-written
+unfolding promised.Steps-written
+steps-written bs p q a f step =
+    let t = table-in bs in
+    let (i, l, e) = step-listed t p q a step in (
+      i,
+      λ o o′ r room w.
+          let k : Writes (one-plan bs p) (a ∷ q) o r o′ = subst (λ (x : List ℕ). Writes (one-plan bs p) x o r o′) e w in
+          result-written (one-plan bs p) (a ∷ q) o r o′ f room k,
+    )
+
 pub compare-tells : promised.Compare-tells
 unfolding promised.Compare-tells
 compare-tells bs p q s s′ n w =
@@ -77,6 +149,52 @@ compare-tells bs p q s s′ n w =
         (λ e d. never-both (same t p q) (exact .1 d) (one-no (same t p q) .0 (sym v ∙ e))),
         (λ d. v ∙ one-no (same t p q) .1 (by-test (same t p q) (λ e. absurd (d (exact .0 e))) (λ e. e))),
       ),
+    )
+
+-- a prime form call that gives back a result was not refused
+written-form : (bs p o o′ s s′ : List ℕ) (n : ℕ) → Formed bs p o s (pos n) o′ s′ →
+    (one-plan bs p ≡ 0) × (n ≡ length (take n o′)) × (take n o′ ≡ prime-form (table-in bs) p)
+written-form bs p o o′ s s′ n w =
+    let a = written-result (with-space s (one-plan bs p)) (prime-form (table-in bs) p) o o′ n (w .written) in
+    (neither (space-refusal s) (one-plan bs p) (a .passed) .1, a .count ∙ ap length (sym (a .bytes)), a .bytes)
+
+form-of-written : (bs p o o′ s s′ : List ℕ) (n : ℕ) → Formed bs p o s (pos n) o′ s′ → Form (table-in bs) p (take n o′)
+form-of-written bs p o o′ s s′ n w =
+    let (f, c, e) = written-form bs p o o′ s s′ n w in
+    let a = accepted-both bs p f in
+    subst (Form (table-in bs) p) (sym e) (form-exists (table-in bs) (a .table .good) p (a .plan .over-table))
+
+pub form-written : promised.Form-written
+unfolding promised.Form-written
+form-written bs p o o′ s s′ n w =
+    let t = table-in bs in
+    let (f, c, e) = written-form bs p o o′ s s′ n w in
+    let form = form-of-written bs p o o′ s s′ n w in (
+      form,
+      sym c,
+      λ q b. subst (λ (m : ℕ). length q ≤ m) (sym c) (form-longest t (accepted-both bs p f .table .good) p (take n o′) q form b),
+    )
+
+-- a call about the plan of one job passes its checks
+one-job : (bs : List ℕ) (j : ℕ) (s : List ℕ) → image-refusal bs ≡ 0 → j < table-in bs .jobs → 65536 ≤ length s →
+    with-space s (one-plan bs (j ∷ [])) ≡ 0
+one-job bs j s h l k =
+    let t = table-in bs in
+    both-pass (space-refusal s) (one-plan bs (j ∷ [])) (space-passed s k)
+    (both-pass (image-refusal bs) (plan-refusal t (j ∷ [])) h (job-passed t j (image-table bs h) l))
+
+pub stands-written : promised.Stands-written
+unfolding promised.Stands-written
+stands-written bs j h l =
+    let t = table-in bs in
+    let g = image-table bs h .good in (
+      λ low o o′ s s′ r room space w.
+          let own : j ∷ [] ≡ prime-form t (j ∷ []) = form-single t g (j ∷ []) (j ∷ []) (lowest-own-form t g j low) in
+          let checks = with-space s (one-plan bs (j ∷ [])) in
+          let k : Writes checks (j ∷ []) o r o′ = subst (λ (x : List ℕ). Writes checks x o r o′) (sym own) (w .written) in
+          result-written checks (j ∷ []) o r o′ (one-job bs j s h l space) room k,
+      λ p o o′ s s′ n w m.
+          stands-lowest t (norms t) g (equivalent-bisimilar t (norms t) g) j p (take n o′) (form-of-written bs p o o′ s s′ n w) m,
     )
 
 pub forms-written : promised.Forms-written

@@ -1,8 +1,10 @@
 -- EVERY PROMISE about images, tables, plans and prime forms, with its proved term. Assumes nothing.
-use mathlib.Core.Path.{_≡_, refl, ap₂, _∙_}
+use mathlib.Core.Path.{_≡_, refl, sym, ap, ap₂, _∙_}
 use mathlib.Core.List.{_++_, List, [], _∷_, List·Memᴰ·head}
 use Prim.Native.Nat.{ℕ}
 use native.Mathlib.Omega.{arith}
+use lib.ListN.{drop}
+use Rattle.bpa.specs.Plans.{Table}
 use Rattle.bpa.specs.Norms.{norms, norm}
 use Rattle.bpa.proofs.Basics.Plans.{step-over, over-one, over-append, over-left, over-right, sum-one}
 use Rattle.bpa.proofs.Rounds.Equivalence.{bisimilar-equivalent, equivalent-append, equivalent-cancel-left, equivalent-cancel-right}
@@ -10,13 +12,14 @@ use Rattle.bpa.proofs.Base.MethodDecides.{equivalent-bisimilar}
 use Rattle.bpa.proofs.Forms.FormMeaning.{stands-lowest}
 use Rattle.bpa.proofs.Basics.Cases.{never-both}
 use Rattle.bpa.proofs.Basics.Moves.{moves-are-steps, steps-are-moves}
-use Rattle.bpa.proofs.Answers.{enough-rounds, same-exact, same-equivalent, any-same, apart-told, form-exists, form-single, forms-exact, lowest-own-form}
+use Rattle.bpa.proofs.Answers.{enough-rounds, same-exact, same-equivalent, any-same, apart-told, form-exists, forms-exact, lowest-own-form}
 use Rattle.bpa.proofs.Answers as answers
 use Rattle.bpa.proofs.Norm.NormFewest as fewest
-use Rattle.rules.specs.Places.{table-of}
+use Rattle.rules.specs.Places.{table-of, table-bytes}
 use Rattle.answer.proofs.RefusalChains.{neither}
 use Rattle.refusal.specs.Refusals.{table-refusal}
 use Rattle.refusal.proofs.TableRefusals.{six-exact, seven-exact}
+use Rattle.image.specs.Image.{image-refusal, image-jobs, image-places, table-in}
 use Rattle.image.specs.Writing.{list-refusal, write-refusal, written}
 use Rattle.image.proofs.ListRefusal.{good-list}
 use Rattle.image.proofs.TableBytes.{bytes-of-image}
@@ -29,11 +32,37 @@ use Rattle.table.proofs.ListTables.{list-closed, list-passed}
 use Rattle.table.proofs.ListTables as lists
 use Rattle.promises.specs.Promises as promised
 use Rattle.promises.proofs.WrittenBytes.{written-bytes}
+use Rattle.promises.proofs.ExactRefusals.{image-exactly, writer-exactly}
+use Rattle.promises.proofs.ExactRefusals as refusals
+use Rattle.promises.proofs.ListedMoves as listed
 
 -- IMAGES AND TABLES
+pub places-back : promised.Places-back
+unfolding promised.Places-back promised.all-bytes
+places-back bs k = (images.image-writes bs (k .passed), images.image-back bs (k .passed) (k .bytes))
+
+-- the job count and the rules of the table are those that stand in the image
+module _ (bs : List ℕ) (h : image-refusal bs ≡ 0) where
+  jobs-stand : image-jobs bs ≡ table-in bs .jobs
+  unfolding table-in table-of
+  jobs-stand = refl
+
+  places-stand : image-places bs ≡ drop 1 (table-bytes (table-in bs))
+  places-stand = ap (drop 1) (sym (bytes-of-image bs (image-passes bs h .0)))
+
 pub image-back : promised.Image-back
-unfolding promised.Image-back promised.all-bytes
-image-back bs k = (images.image-writes bs (k .passed), images.image-back bs (k .passed) (k .bytes))
+unfolding promised.Image-back promised.Places-back
+image-back bs k =
+    let j = jobs-stand bs (k .passed) in
+    let ps = places-stand bs (k .passed) in
+    (ap₂ write-refusal (sym j) (sym ps) ∙ places-back bs k .0, ap₂ written (sym j) (sym ps) ∙ places-back bs k .1)
+
+pub images-tell : promised.Images-tell
+unfolding promised.Images-tell promised.Image-back
+images-tell bs cs k l = (
+  λ e. sym (image-back bs k .1) ∙ ap (λ (t : Table). written (t .jobs) (drop 1 (table-bytes t))) e ∙ image-back cs l .1,
+  ap table-in,
+)
 
 write-listed : (n : ℕ) (rs : List ℕ) → write-refusal n rs ≡ 0 → list-refusal n rs ≡ 0
 unfolding write-refusal
@@ -56,14 +85,48 @@ pub list-table : promised.List-table
 unfolding promised.List-table
 list-table n rs = (λ h. (list-closed n rs h, list-passed n rs h), lists.list-table n rs)
 
--- NORMS
+-- REFUSALS 6 TO 9
 pub six-exactly : promised.Six-exactly
 unfolding promised.Six-exactly
 six-exactly = six-exact
 
+pub image-six : promised.Image-six
+unfolding promised.Image-six
+image-six bs = image-exactly bs 6 (omega arith) (λ h. six-exact (table-in bs) (image-closed bs h))
+
+pub writer-six : promised.Writer-six
+unfolding promised.Writer-six
+writer-six n rs = writer-exactly n rs 6 (omega arith) (λ h. six-exact (table-of n rs) (list-closed n rs h))
+
 pub seven-exactly : promised.Seven-exactly
 unfolding promised.Seven-exactly
 seven-exactly = seven-exact
+
+pub image-seven : promised.Image-seven
+unfolding promised.Image-seven
+image-seven bs = image-exactly bs 7 (omega arith) (λ h. seven-exact (table-in bs) (image-closed bs h))
+
+pub writer-seven : promised.Writer-seven
+unfolding promised.Writer-seven
+writer-seven n rs = writer-exactly n rs 7 (omega arith) (λ h. seven-exact (table-of n rs) (list-closed n rs h))
+
+pub eight-exactly : promised.Eight-exactly
+unfolding promised.Eight-exactly
+eight-exactly = refusals.eight-exactly
+
+pub nine-exactly : promised.Nine-exactly
+unfolding promised.Nine-exactly
+nine-exactly = refusals.nine-exactly
+
+pub eight-of-two : promised.Eight-of-two
+unfolding promised.Eight-of-two
+eight-of-two = refusals.eight-of-two
+
+pub nine-of-two : promised.Nine-of-two
+unfolding promised.Nine-of-two
+nine-of-two = refusals.nine-of-two
+
+-- NORMS
 
 pub norm-fewest : promised.Norm-fewest
 unfolding promised.Norm-fewest
@@ -73,6 +136,10 @@ norm-fewest t p k o = fewest.norm-fewest t (k .good) p o
 pub moves-exactly : promised.Moves-exactly
 unfolding promised.Moves-exactly
 moves-exactly t x β a q = (moves-are-steps t (x ∷ β) a q, steps-are-moves t (x ∷ β) a q)
+
+pub steps-listed : promised.Steps-listed
+unfolding promised.Steps-listed
+steps-listed = listed.step-listed
 
 pub no-such-move : promised.No-such-move
 unfolding promised.No-such-move
@@ -133,9 +200,9 @@ pub form-there : promised.Form-there
 unfolding promised.Form-there
 form-there t p k o = form-exists t (k .good) p o
 
-pub form-one : promised.Form-single
+pub form-single : promised.Form-single
 unfolding promised.Form-single
-form-one t p f k h = form-single t (k .good) p f h
+form-single t p f k h = answers.form-single t (k .good) p f h
 
 pub form-settled : promised.Form-settled
 unfolding promised.Form-settled

@@ -32,8 +32,8 @@ use Rattle.image.proofs.TableBack.{table-held, table-back}
 use Rattle.table.specs.CallRefusals.{one-plan, two-plans}
 use Rattle.table.proofs.ImageTables.{image-table}
 use Rattle.table.proofs.ListTables.{list-closed}
-use Rattle.promises.specs.WorkedCases.{Worked, image-of, read-back, listed, Normed, Means, equal-plans, pair-passes, has-form}
-use Rattle.promises.specs.WorkedCases.{passes, all-pass, cases}
+use Rattle.promises.specs.WorkedCases.{Worked, image-of, read-back, listed, HasNorms, Means, equal-plans, pair-passes, has-form}
+use Rattle.promises.specs.WorkedCases.{passes, all-pass, cases, Cases-hold}
 use Rattle.promises.specs.WorkedCases.{Case, refusal-is, byte-is, norms-are, pair-refusal-is, are-same, are-apart, form-is, is-prime}
 
 -- THE COMPUTED PROOF
@@ -64,12 +64,12 @@ module _ (w : Worked) where
   held : list-refusal (w .jobs) (w .rules) ≡ 0 → read-back w ≡ listed w
   held h = table-held (w .jobs) (w .rules) (good-list (w .jobs) (w .rules) h)
 
-  norms-hold : (ns : List ℕ) → list-refusal (w .jobs) (w .rules) ≡ 0 → norms (listed w) ≡ ns → Normed (read-back w) (w .jobs) ns
+  norms-hold : (ns : List ℕ) → list-refusal (w .jobs) (w .rules) ≡ 0 → norms (listed w) ≡ ns → HasNorms (read-back w) (w .jobs) ns
   unfolding table-of
   norms-hold ns h e =
       let closed = list-closed (w .jobs) (w .rules) h in
-      subst (λ (t : Table). Normed t (w .jobs) ns) (sym (held h))
-      (subst (Normed (listed w) (w .jobs)) e
+      subst (λ (t : Table). HasNorms t (w .jobs) ns) (sym (held h))
+      (subst (HasNorms (listed w) (w .jobs)) e
       (λ j l. (job-without (listed w) closed j l .0, job-norm (listed w) closed j l)))
 
   -- a list that the writer accepts, and a check of its table: both are past in its image too
@@ -158,5 +158,6 @@ all-true (d ∷ cs) e c m =
     (all-true cs (and-right (passes d) (all-pass cs) e) c) (List·Memᴰ·cases-cons m)
 
 -- EVERY CASE IS TRUE
-pub cases-hold : (c : Case) → List·Memᴰ c cases → Means c
+pub cases-hold : Cases-hold
+unfolding Cases-hold
 cases-hold = all-true cases cases-pass

@@ -1,14 +1,20 @@
--- What is promised of the bytes that the calls write: statements, each proved by a term of its name in proofs/. Assumes nothing.
+-- What is promised of the numbers that the calls give back and of the bytes that they write: statements, each a field of
+-- EveryPromise and proved by a term of its name in small letters. A call with a result is one that no check refused. Assumes nothing.
 use mathlib.Core.Path.{_≡_}
 use mathlib.Core.Bool.{true}
-use mathlib.Core.List.{List, _∷_}
-use mathlib.Core.Logic.{_↔_}
-use Prim.Native.Nat.{ℕ, _-_, _≤_}
+use mathlib.Core.List.{List, [], _∷_, List·Memᴰ}
+use mathlib.Core.Logic.{_↔_, _⊎_}
+use Prim.Native.Nat.{ℕ, _-_, _≤_, _<_}
 use lib.IntN.{ℤ, pos}
 use lib.ListN.{length, getD, take, drop}
-use Rattle.bpa.specs.Bisimilar.{Bisimilar}
-use Rattle.image.specs.Image.{table-in}
+use Rattle.bpa.specs.Plans.{Step, Runs, moves}
+use Rattle.bpa.specs.Norms.{Fewest}
+use Rattle.bpa.specs.Bisimilar.{Bisimilar, Lowest, Form}
+use Rattle.image.specs.Image.{image-refusal, table-in}
+use Rattle.moves.specs.Moves.{move-bytes, first-rules}
+use Rattle.table.specs.CallRefusals.{one-plan}
 use Rattle.images.specs.ImageCalls.{Read, Written}
+use Rattle.plans.specs.PlanCalls.{Normed, Moved, Ran}
 use Rattle.sameness.specs.SamenessCalls.{Compared, Formed}
 use Rattle.promises.specs.Promises.{all-bytes}
 
@@ -26,13 +32,53 @@ Table-survives =
     Read (take n o′) u r u′ → length (jobs ∷ rs) ≤ length u →
     (r ≡ pos (length (jobs ∷ rs))) × (take (length (jobs ∷ rs)) u′ ≡ jobs ∷ rs)
 
+-- the norm given back is the fewest moves to the empty plan
+unfoldable pub Norm-given : Type 0
+Norm-given = (bs p : List ℕ) (n : ℕ) → Normed bs p (pos n) → Fewest (table-in bs) p n
+
+-- the moves written are a shortest run: they lead to the empty plan, and no run that does has fewer
+unfoldable pub Run-written : Type 0
+Run-written =
+    (bs p o o′ : List ℕ) (n : ℕ) → Ran bs p o (pos n) o′ →
+    Runs (table-in bs) p (take n o′) [] × (length (take n o′) ≡ n) × Fewest (table-in bs) p n
+
+-- the call for the n-th move writes the n-th of the list of moves and answers 0 exactly if there is none; what it writes is a step
+unfoldable pub Move-written : Type 0
+Move-written =
+    (bs p o o′ : List ℕ) (i n : ℕ) → Moved bs p i o (pos n) o′ →
+    (take n o′ ≡ move-bytes (moves (table-in bs) p) i)
+    × ((n ≡ 0) ↔ ((p ≡ []) ⊎ (first-rules (table-in bs) p ≤ i)))
+    × (0 < n → (a : ℕ) × (q : List ℕ) × (take n o′ ≡ a ∷ q) × Step (table-in bs) p a q)
+
+-- every step is written for some index, if the output area is long enough
+unfoldable pub Steps-written : Type 0
+Steps-written =
+    (bs p q : List ℕ) (a : ℕ) → one-plan bs p ≡ 0 → Step (table-in bs) p a q →
+    (i : ℕ) × ((o o′ : List ℕ) (r : ℤ) → length (a ∷ q) ≤ length o → Moved bs p i o r o′ →
+    (r ≡ pos (length (a ∷ q))) × (take (length (a ∷ q)) o′ ≡ a ∷ q))
+
 -- compare answers 1 exactly for bisimilar plans and 0 exactly for others, whatever the workspaces held
 unfoldable pub Compare-tells : Type 0
 Compare-tells =
     (bs p q s s′ : List ℕ) (n : ℕ) → Compared bs p q s (pos n) s′ →
     ((n ≡ 1) ↔ Bisimilar (table-in bs) p q) × ((n ≡ 0) ↔ (Bisimilar (table-in bs) p q → ⊥))
 
--- THE THIRD DEMAND of the bytes: two prime forms written from one image are equal exactly if the plans are bisimilar
+-- THE THIRD DEMAND of the bytes. What is written is the prime form of the plan, and no bisimilar plan has more jobs
+unfoldable pub Form-written : Type 0
+Form-written =
+    (bs p o o′ s s′ : List ℕ) (n : ℕ) → Formed bs p o s (pos n) o′ s′ →
+    Form (table-in bs) p (take n o′) × (length (take n o′) ≡ n)
+    × ((q : List ℕ) → Bisimilar (table-in bs) q p → length q ≤ n)
+
+-- a lowest prime is written as the form of the plan of it alone, and no other job stands in a written form
+unfoldable pub Stands-written : Type 0
+Stands-written =
+    (bs : List ℕ) (j : ℕ) → image-refusal bs ≡ 0 → j < table-in bs .jobs →
+    (Lowest (table-in bs) j → (o o′ s s′ : List ℕ) (r : ℤ) → 1 ≤ length o → 65536 ≤ length s →
+    Formed bs (j ∷ []) o s r o′ s′ → (r ≡ pos 1) × (take 1 o′ ≡ j ∷ []))
+    × ((p o o′ s s′ : List ℕ) (n : ℕ) → Formed bs p o s (pos n) o′ s′ → List·Memᴰ j (take n o′) → Lowest (table-in bs) j)
+
+-- two prime forms written from one image are equal exactly if the plans are bisimilar
 unfoldable pub Forms-written : Type 0
 Forms-written =
     (bs p q o o′ s s′ u u′ v v′ : List ℕ) (n m : ℕ) → Formed bs p o s (pos n) o′ s′ → Formed bs q u v (pos m) u′ v′ →

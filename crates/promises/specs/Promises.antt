@@ -1,17 +1,18 @@
--- What is promised of images, tables, plans and prime forms: statements, each proved by a term of its name in proofs/. Promises about
--- plans are over every accepted table, whatever it comes from; that of an accepted image is one. Assumes nothing.
+-- What is promised of images, tables, plans and prime forms: statements, each a field of EveryPromise and proved by a term of its
+-- name in small letters. Promises about plans are over every accepted table, whatever it comes from; that of an accepted image is
+-- one. Assumes nothing.
 use mathlib.Core.Path.{_≡_}
 use mathlib.Core.Bool.{Bool, true, false}
 use mathlib.Core.List.{List, [], _∷_, _++_, List·Memᴰ}
 use mathlib.Core.Logic.{_↔_, _⊎_}
 use Prim.Native.Nat.{ℕ, _≤_, _<_}
-use lib.ListN.{length}
+use lib.ListN.{length, drop}
 use Rattle.bpa.specs.Plans.{Table, Move, all-below, over, HasRule, Step, moves}
 use Rattle.bpa.specs.Norms.{norm, Fewest, Endless}
 use Rattle.bpa.specs.Bisimilar.{Approx, Any-bisimulation, Bisimilar, Lowest, Form}
 use Rattle.bpa.specs.Method.{same, prime-form}
 use Rattle.rules.specs.Places.{table-of, table-bytes}
-use Rattle.refusal.specs.Refusals.{table-refusal, Closed, Accepted}
+use Rattle.refusal.specs.Refusals.{table-refusal, plan-refusal, plans-refusal, Closed, Accepted}
 use Rattle.image.specs.Image.{layout-refusal, image-refusal, image-jobs, image-places, table-in}
 use Rattle.image.specs.Writing.{list-refusal, write-refusal, written}
 use Rattle.moves.specs.Moves.{move-bytes, first-rules}
@@ -25,11 +26,22 @@ pub record AcceptedImage (bs : List ℕ) : Type 0 where
   pub passed : image-refusal bs ≡ 0
 
 -- IMAGES AND TABLES
--- an accepted image survives reading and writing byte for byte
+-- an accepted image survives reading and writing byte for byte: by the table that it holds
 unfoldable pub Image-back : Type 0
 Image-back =
     (bs : List ℕ) → AcceptedImage bs →
+    (write-refusal (table-in bs .jobs) (drop 1 (table-bytes (table-in bs))) ≡ 0)
+    × (written (table-in bs .jobs) (drop 1 (table-bytes (table-in bs))) ≡ bs)
+
+-- and by its places as they stand in its blocks
+unfoldable pub Places-back : Type 0
+Places-back =
+    (bs : List ℕ) → AcceptedImage bs →
     (write-refusal (image-jobs bs) (image-places bs) ≡ 0) × (written (image-jobs bs) (image-places bs) ≡ bs)
+
+-- two accepted images hold the same table exactly if they are equal byte for byte
+unfoldable pub Images-tell : Type 0
+Images-tell = (bs cs : List ℕ) → AcceptedImage bs → AcceptedImage cs → (table-in bs ≡ table-in cs) ↔ (bs ≡ cs)
 
 -- an accepted table survives writing and reading
 unfoldable pub Table-back : Type 0
@@ -52,19 +64,59 @@ List-table =
     (list-refusal n rs ≡ 0 → Closed (table-of n rs) × (write-refusal n rs ≡ table-refusal (table-of n rs)))
     × (write-refusal n rs ≡ 0 → Accepted (table-of n rs))
 
--- NORMS
--- a closed table is refused by 6 exactly if some job has no run to its end
-unfoldable pub Six-exactly : Type 0
-Six-exactly =
-    (t : Table) → Closed t → (table-refusal t ≡ 6) ↔ ((j : ℕ) × (j < t .jobs) × Endless t (j ∷ []))
+-- REFUSALS 6 TO 9 are given for their conditions only
+-- some job has no run to its end
+abbrev pub Some-endless : Table → Type 0
+Some-endless t = (j : ℕ) × (j < t .jobs) × Endless t (j ∷ [])
 
--- and by 7 exactly if each has one, and the shortest of some job is longer than 512
+-- each job has one, and the shortest of some job is longer than 512
+abbrev pub Some-above-512 : Table → Type 0
+Some-above-512 t =
+    ((j : ℕ) → j < t .jobs → (v : ℕ) × Fewest t (j ∷ []) v)
+    × ((j : ℕ) × (j < t .jobs) × (v : ℕ) × Fewest t (j ∷ []) v × (512 < v))
+
+-- of a closed table, of an image, and of what the writer is given
+unfoldable pub Six-exactly : Type 0
+Six-exactly = (t : Table) → Closed t → (table-refusal t ≡ 6) ↔ Some-endless t
+
+unfoldable pub Image-six : Type 0
+Image-six = (bs : List ℕ) → (image-refusal bs ≡ 6) ↔ ((layout-refusal bs ≡ 0) × Some-endless (table-in bs))
+
+unfoldable pub Writer-six : Type 0
+Writer-six = (n : ℕ) (rs : List ℕ) → (write-refusal n rs ≡ 6) ↔ ((list-refusal n rs ≡ 0) × Some-endless (table-of n rs))
+
 unfoldable pub Seven-exactly : Type 0
-Seven-exactly =
-    (t : Table) → Closed t →
-    (table-refusal t ≡ 7)
-    ↔ (((j : ℕ) → j < t .jobs → (v : ℕ) × Fewest t (j ∷ []) v)
-    × ((j : ℕ) × (j < t .jobs) × (v : ℕ) × Fewest t (j ∷ []) v × (512 < v)))
+Seven-exactly = (t : Table) → Closed t → (table-refusal t ≡ 7) ↔ Some-above-512 t
+
+unfoldable pub Image-seven : Type 0
+Image-seven = (bs : List ℕ) → (image-refusal bs ≡ 7) ↔ ((layout-refusal bs ≡ 0) × Some-above-512 (table-in bs))
+
+unfoldable pub Writer-seven : Type 0
+Writer-seven =
+    (n : ℕ) (rs : List ℕ) → (write-refusal n rs ≡ 7) ↔ ((list-refusal n rs ≡ 0) × Some-above-512 (table-of n rs))
+
+-- a plan is refused by 8 exactly if it names a job that is not there
+unfoldable pub Eight-exactly : Type 0
+Eight-exactly = (t : Table) (p : List ℕ) → (plan-refusal t p ≡ 8) ↔ (over t p ≡ false)
+
+-- a plan whose shortest run is longer than 4,096 moves
+abbrev pub Above-4096 : Table → (plan : List ℕ) → Type 0
+Above-4096 t p = (v : ℕ) × Fewest t p v × (4096 < v)
+
+-- and by 9 exactly if it names none, and its shortest run is longer than 4,096 moves
+unfoldable pub Nine-exactly : Type 0
+Nine-exactly = (t : Table) (p : List ℕ) → Accepted t → (plan-refusal t p ≡ 9) ↔ ((over t p ≡ true) × Above-4096 t p)
+
+-- two plans are refused by 8 exactly if either names such a job, and by 9 exactly if neither does and either is so long
+unfoldable pub Eight-of-two : Type 0
+Eight-of-two = (t : Table) (p q : List ℕ) → (plans-refusal t p q ≡ 8) ↔ ((over t p ≡ false) ⊎ (over t q ≡ false))
+
+unfoldable pub Nine-of-two : Type 0
+Nine-of-two =
+    (t : Table) (p q : List ℕ) → Accepted t →
+    (plans-refusal t p q ≡ 9) ↔ ((over t p ≡ true) × (over t q ≡ true) × (Above-4096 t p ⊎ Above-4096 t q))
+
+-- NORMS
 
 -- the norm is the fewest moves to the empty plan
 unfoldable pub Norm-fewest : Type 0
@@ -76,6 +128,12 @@ unfoldable pub Moves-exactly : Type 0
 Moves-exactly =
     (t : Table) (x : ℕ) (β : List ℕ) (a : ℕ) (q : List ℕ) →
     List·Memᴰ {A = Move} (record { move = a; rest = q }) (moves t (x ∷ β)) ↔ ((w : List ℕ) × HasRule t x a w × (q ≡ w ++ β))
+
+-- each step is the n-th move for some n below the number of the first job's rules
+unfoldable pub Steps-listed : Type 0
+Steps-listed =
+    (t : Table) (p q : List ℕ) (a : ℕ) → Step t p a q →
+    (n : ℕ) × (n < first-rules t p) × (move-bytes (moves t p) n ≡ a ∷ q)
 
 -- there is no n-th move exactly if the plan is empty, or n is not below the number of the first job's rules
 unfoldable pub No-such-move : Type 0
@@ -92,7 +150,7 @@ Same-exactly =
     (t : Table) (p q : List ℕ) → Accepted t → over t p ≡ true → over t q ≡ true →
     (same t p q ≡ true) ↔ Bisimilar t p q
 
--- no bisimulation at all, computable or not, relates plans that are apart
+-- no bisimulation, computable or not, relates plans that are apart: the relations are all those valued in Type 0
 unfoldable pub Apart-from-all : Type 1
 Apart-from-all =
     (t : Table) (p q : List ℕ) → Accepted t → over t p ≡ true → over t q ≡ true →

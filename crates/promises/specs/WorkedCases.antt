@@ -3,7 +3,7 @@
 -- definitions.
 use mathlib.Core.Path.{_≡_}
 use mathlib.Core.Bool.{Bool, true, false, not, _&&_}
-use mathlib.Core.List.{List, [], _∷_, _++_}
+use mathlib.Core.List.{List, [], _∷_, _++_, List·Memᴰ}
 use Prim.Native.Nat.{ℕ, _<_}
 use lib.Dec.{eqb}
 use lib.ListN.{getD}
@@ -46,15 +46,15 @@ pub data Case : Type 0 where
   is-prime : (w : Worked) (job : ℕ) → Case
 
 -- a job of norm 0 has no run to its end
-abbrev pub Normed : Table → (jobs : ℕ) → (by-job : List ℕ) → Type 0
-Normed t n ns =
+abbrev pub HasNorms : Table → (jobs : ℕ) → (by-job : List ℕ) → Type 0
+HasNorms t n ns =
     (j : ℕ) → j < n → (getD ns j 0 ≡ 0 → Endless t (j ∷ [])) × (0 < getD ns j 0 → Fewest t (j ∷ []) (getD ns j 0))
 
 -- WHAT A CASE MEANS, of the written image and of the table that is read from it
 abbrev pub Means : Case → Type 0
 Means (refusal-is w f) = (write-refusal (w .jobs) (w .rules) ≡ f) × (image-refusal (image-of w) ≡ f)
 Means (byte-is w i v) = getD (image-of w) i 0 ≡ v
-Means (norms-are w ns) = Normed (read-back w) (w .jobs) ns
+Means (norms-are w ns) = HasNorms (read-back w) (w .jobs) ns
 Means (pair-refusal-is w p q f) = two-plans (image-of w) p q ≡ f
 Means (are-same w p q) = (two-plans (image-of w) p q ≡ 0) × Bisimilar (read-back w) p q
 Means (are-apart w p q) = (two-plans (image-of w) p q ≡ 0) × (Bisimilar (read-back w) p q → ⊥)
@@ -146,3 +146,7 @@ cases =
     are-same twice-at-zero (0 ∷ []) (1 ∷ []) ∷ form-is twice-at-zero (1 ∷ []) (0 ∷ []) ∷
     refusal-is back-to-itself 6 ∷ norms-are back-to-itself (0 ∷ []) ∷
     refusal-is back-or-done 0 ∷ norms-are back-or-done (1 ∷ []) ∷ []
+
+-- EVERY CASE IS TRUE
+unfoldable pub Cases-hold : Type 0
+Cases-hold = (c : Case) → List·Memᴰ c cases → Means c

@@ -1,0 +1,60 @@
+-- EVERY PROMISE as a field: its proved term is one term of this record, so a promise that nothing proves fails the check.
+-- Assumes nothing: this is a definition.
+use Rattle.promises.specs.Promises as promises
+use Rattle.promises.specs.Calls as calls
+use Rattle.promises.specs.WorkedCases as workedcases
+
+pub record EveryPromise : Type 1 where
+  -- IMAGES AND TABLES
+  pub image-back : promises.Image-back
+  pub places-back : promises.Places-back
+  pub images-tell : promises.Images-tell
+  pub table-back : promises.Table-back
+  -- SOURCES OF TABLES
+  pub image-table : promises.Image-table
+  pub list-table : promises.List-table
+  -- REFUSALS 6 TO 9
+  pub six-exactly : promises.Six-exactly
+  pub image-six : promises.Image-six
+  pub writer-six : promises.Writer-six
+  pub seven-exactly : promises.Seven-exactly
+  pub image-seven : promises.Image-seven
+  pub writer-seven : promises.Writer-seven
+  pub eight-exactly : promises.Eight-exactly
+  pub nine-exactly : promises.Nine-exactly
+  pub eight-of-two : promises.Eight-of-two
+  pub nine-of-two : promises.Nine-of-two
+  -- NORMS
+  pub norm-fewest : promises.Norm-fewest
+  -- MOVES
+  pub moves-exactly : promises.Moves-exactly
+  pub steps-listed : promises.Steps-listed
+  pub no-such-move : promises.No-such-move
+  pub moves-over : promises.Moves-over
+  -- SAMENESS
+  pub same-exactly : promises.Same-exactly
+  pub apart-from-all : promises.Apart-from-all
+  pub rounds-tell : promises.Rounds-tell
+  pub same-norm : promises.Same-norm
+  pub congruence : promises.Congruence
+  pub cancellation : promises.Cancellation
+  -- PRIME FORMS
+  pub form-there : promises.Form-there
+  pub form-single : promises.Form-single
+  pub form-settled : promises.Form-settled
+  pub forms-tell : promises.Forms-tell
+  pub form-longest : promises.Form-longest
+  pub stands-exactly : promises.Stands-exactly
+  -- WHAT THE CALLS GIVE BACK AND WRITE
+  pub image-survives : calls.Image-survives
+  pub table-survives : calls.Table-survives
+  pub norm-given : calls.Norm-given
+  pub run-written : calls.Run-written
+  pub move-written : calls.Move-written
+  pub steps-written : calls.Steps-written
+  pub compare-tells : calls.Compare-tells
+  pub form-written : calls.Form-written
+  pub stands-written : calls.Stands-written
+  pub forms-written : calls.Forms-written
+  -- THE WORKED CASES
+  pub cases-hold : workedcases.Cases-hold
