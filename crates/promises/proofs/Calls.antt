@@ -32,10 +32,11 @@ use Rattle.moves.specs.Moves.{move-bytes}
 use Rattle.moves.proofs.NoSuchMove.{no-such-move}
 use Rattle.table.specs.CallRefusals.{one-plan, two-plans}
 use Rattle.table.proofs.ImageTables.{image-passes, image-table}
+use Rattle.workspace.proofs.UsablePart.{long-passes}
 use Rattle.sameness.specs.SamenessCalls.{Formed}
 use Rattle.promises.specs.Promises.{all-bytes}
 use Rattle.promises.specs.Calls as promised
-use Rattle.promises.proofs.ExactRefusals.{job-passed, space-passed}
+use Rattle.promises.proofs.ExactRefusals.{job-passed}
 use Rattle.promises.proofs.ListedMoves.{listed-step, step-listed}
 
 -- a job count and the rest of what was read
@@ -180,7 +181,7 @@ one-job : (bs : List ℕ) (j : ℕ) (s : List ℕ) → image-refusal bs ≡ 0 �
     with-space s (one-plan bs (j ∷ [])) ≡ 0
 one-job bs j s h l k =
     let t = table-in bs in
-    both-pass (space-refusal s) (one-plan bs (j ∷ [])) (space-passed s k)
+    both-pass (space-refusal s) (one-plan bs (j ∷ [])) (long-passes s k)
     (both-pass (image-refusal bs) (plan-refusal t (j ∷ [])) h (job-passed t j (image-table bs h) l))
 
 pub stands-written : promised.Stands-written

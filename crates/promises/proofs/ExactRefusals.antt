@@ -7,12 +7,12 @@ use Prim.Native.Nat.{ℕ, zero, suc, _%_, _≤_, _<_}
 use native.Mathlib.Omega.{arith}
 use lib.Dec.{leb, eqb}
 use lib.ListN.{length}
-use borrow.Author.Tests.{leb-false, le-leb, lt-leb, le-ltb}
+use borrow.Author.Tests.{leb-false, le-leb, lt-leb}
 use Rattle.bpa.specs.Plans.{Table, all-below, over}
 use Rattle.bpa.specs.Norms.{sum-of, norms, norm, Fewest}
 use Rattle.bpa.proofs.Basics.Plans.{over-one, sum-one}
 use Rattle.bpa.proofs.Norm.NormFewest.{norm-fewest}
-use Rattle.answer.specs.Refusals.{or-else, space-size, space-refusal}
+use Rattle.answer.specs.Refusals.{or-else}
 use Rattle.answer.proofs.RefusalChains.{passed-first, refused-first, both-pass}
 use Rattle.rules.specs.Places.{places-good, rule-count, table-of}
 use Rattle.refusal.specs.Refusals.{table-refusal, jobs-refusal, sum-refusal, plan-refusal, plans-refusal, Accepted, AcceptedPlan}
@@ -145,8 +145,3 @@ pub job-passed : (t : Table) (j : ℕ) → Accepted t → j < t .jobs → plan-r
 unfolding norm
 job-passed t j k l =
     plan-passed t (j ∷ []) (record { over-table = over-one t j l; norm-small = omega (arith, sum-one (norms t) j, k .small j) })
-
--- a workspace that is long enough is not refused
-pub space-passed : (s : List ℕ) → 65536 ≤ length s → space-refusal s ≡ 0
-unfolding space-refusal space-size
-space-passed s h = ap (λ (b : Bool). cond b 1 0) (le-ltb (length s) 65536 h)
