@@ -5,7 +5,7 @@ use mathlib.Core.List.{List, [], _∷_}
 use Prim.Native.Nat.{ℕ, zero, suc, _≤_, _<_}
 use native.Mathlib.Nat.{le-refl}
 use native.Mathlib.Omega.{arith}
-use borrow.Author.Tests.{ltb-false, le-leb}
+use borrow.Author.Tests.{ltb-false}
 use lib.Dec.{ltb}
 use lib.IntN.{ℤ}
 use lib.ListN.{length, take}
@@ -15,7 +15,8 @@ use Rattle.bpa.specs.Method.{prime-form}
 use Rattle.bpa.proofs.Basics.Cases.{by-test}
 use Rattle.bpa.proofs.Basics.Plans.{over-one, sum-one, length-norm}
 use Rattle.bpa.proofs.Answers.{form-exists, same-norm}
-use Rattle.refusal.specs.Refusals.{jobs-refusal, sum-refusal, plan-refusal, Accepted}
+use Rattle.refusal.specs.Refusals.{plan-refusal, Accepted}
+use Rattle.refusal.proofs.PlanRefusals.{job-passed}
 use Rattle.image.specs.Image.{image-refusal, table-in}
 use Rattle.answer.specs.Refusals.{space-refusal, room-refusal}
 use Rattle.answer.specs.Answer.{signed, with-room, with-space, Writes, GivesWithSpace, WritesWithSpace}
@@ -77,11 +78,7 @@ module _ (bs : List ℕ) (j : ℕ) (a : image-refusal bs ≡ 0) (h : j < table-i
   small = omega (arith, sum-one (norms t) j, accepted .small j)
 
   not-refused : one-plan bs p ≡ 0
-  unfolding plan-refusal jobs-refusal sum-refusal over
-  not-refused =
-      both-pass (image-refusal bs) (plan-refusal t p) a
-      (both-pass (jobs-refusal (t .jobs) p) (sum-refusal (norms t) p) (ap (λ (b : Bool). cond b 0 8) is-over)
-      (ap (λ (b : Bool). cond b 0 9) (le-leb (sum-of (norms t) p) 4096 (omega (arith, small)))))
+  not-refused = both-pass (image-refusal bs) (plan-refusal t p) a (job-passed t j accepted h)
 
   pub norm-shown : result-in (signed (one-plan bs p) (norm t p)) ≡ norm t p
   unfolding signed result-in

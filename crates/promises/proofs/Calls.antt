@@ -22,7 +22,7 @@ use Rattle.answer.specs.Answer.{one-if, Writes, with-space}
 use Rattle.answer.proofs.RefusalChains.{neither, both-pass}
 use Rattle.answer.proofs.Results.{result-is, one-yes, one-no, written-result, result-written}
 use Rattle.refusal.specs.Refusals.{plan-refusal, plans-refusal, Accepted, AcceptedPlan}
-use Rattle.refusal.proofs.PlanRefusals.{accepted-plan, accepted-plans}
+use Rattle.refusal.proofs.PlanRefusals.{accepted-plan, accepted-plans, job-passed}
 use Rattle.image.specs.Image.{image-refusal, image-jobs, image-places, table-in}
 use Rattle.image.specs.Writing.{write-refusal, written}
 use Rattle.image.proofs.TableBytes.{bytes-of-image}
@@ -36,7 +36,6 @@ use Rattle.workspace.proofs.UsablePart.{long-passes}
 use Rattle.sameness.specs.SamenessCalls.{Formed}
 use Rattle.promises.specs.Promises.{all-bytes}
 use Rattle.promises.specs.Calls as promised
-use Rattle.promises.proofs.ExactRefusals.{job-passed}
 use Rattle.promises.proofs.ListedMoves.{listed-step, step-listed}
 
 -- a job count and the rest of what was read
@@ -202,15 +201,14 @@ pub forms-written : promised.Forms-written
 unfolding promised.Forms-written
 forms-written bs p q o o′ s s′ u u′ v v′ n m w x =
     let t = table-in bs in
-    let a = written-result (with-space s (one-plan bs p)) (prime-form t p) o o′ n (w .written) in
-    let b = written-result (with-space v (one-plan bs q)) (prime-form t q) u u′ m (x .written) in
-    let (i, k) = neither (image-refusal bs) (plan-refusal t p) (neither (space-refusal s) (one-plan bs p) (a .passed) .1) in
-    let (i′, l) = neither (image-refusal bs) (plan-refusal t q) (neither (space-refusal v) (one-plan bs q) (b .passed) .1) in
-    let oₚ = accepted-plan t p k .over-table in
-    let o₌ = accepted-plan t q l .over-table in
-    let g = image-table bs i .good in
+    let (f, c, e) = written-form bs p o o′ s s′ n w in
+    let (h, d, k) = written-form bs q u u′ v v′ m x in
+    let a = accepted-both bs p f in
+    let oₚ = a .plan .over-table in
+    let o₌ = accepted-both bs q h .plan .over-table in
+    let g = a .table .good in
     let forms = same-forms t g p q oₚ o₌ in
     let exact = same-exact t g p q oₚ o₌ in (
-      (λ e. exact .0 (forms .1 (sym (a .bytes) ∙ e ∙ b .bytes))),
-      (λ d. a .bytes ∙ forms .0 (exact .1 d) ∙ sym (b .bytes)),
+      (λ z. exact .0 (forms .1 (sym e ∙ z ∙ k))),
+      (λ z. e ∙ forms .0 (exact .1 z) ∙ sym k),
     )

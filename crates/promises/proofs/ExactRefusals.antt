@@ -1,21 +1,20 @@
 -- Refusals 6 and 7 of an image and of the writer, and 8 and 9 of plans, are given exactly for their conditions. Assumes nothing.
-use mathlib.Core.Path.{_≡_, refl, sym, ap, _∙_}
+use mathlib.Core.Path.{_≡_, refl, sym, _∙_}
 use mathlib.Core.Bool.{Bool, true, false, _&&_, not, cond, true≢false}
-use mathlib.Core.List.{List, [], _∷_}
+use mathlib.Core.List.{List}
 use mathlib.Core.Logic.{_↔_, _⊎_, inl, inr, ⊎-elim, ⊎-map}
 use Prim.Native.Nat.{ℕ, zero, suc, _%_, _≤_, _<_}
 use native.Mathlib.Omega.{arith}
 use lib.Dec.{leb, eqb}
 use lib.ListN.{length}
-use borrow.Author.Tests.{leb-false, le-leb, lt-leb}
+use borrow.Author.Tests.{leb-false, lt-leb}
 use Rattle.bpa.specs.Plans.{Table, all-below, over}
 use Rattle.bpa.specs.Norms.{sum-of, norms, norm, Fewest}
-use Rattle.bpa.proofs.Basics.Plans.{over-one, sum-one}
 use Rattle.bpa.proofs.Norm.NormFewest.{norm-fewest}
 use Rattle.answer.specs.Refusals.{or-else}
-use Rattle.answer.proofs.RefusalChains.{passed-first, refused-first, both-pass}
+use Rattle.answer.proofs.RefusalChains.{passed-first, refused-first}
 use Rattle.rules.specs.Places.{places-good, rule-count, table-of}
-use Rattle.refusal.specs.Refusals.{table-refusal, jobs-refusal, sum-refusal, plan-refusal, plans-refusal, Accepted, AcceptedPlan}
+use Rattle.refusal.specs.Refusals.{table-refusal, jobs-refusal, sum-refusal, plan-refusal, plans-refusal, Accepted}
 use Rattle.image.specs.Image.{length-good, each-block, sum-good, head-good, block-good, blocks-in, layout-refusal, image-refusal, table-in}
 use Rattle.image.specs.Writing.{list-refusal, write-refusal}
 use Rattle.promises.specs.Promises.{Above-4096}
@@ -133,15 +132,3 @@ nine-of-two t p q k =
       λ e. let (o, u, b) = tests .0 e in (o, u, ⊎-map (above t k p o) (above t k q u) b),
       λ h. tests .1 (h .0, h .1, ⊎-map (above-fails t k p (h .0)) (above-fails t k q (h .1)) (h .2)),
     )
-
--- a plan that is accepted meets neither
-pub plan-passed : (t : Table) (p : List ℕ) → AcceptedPlan t p → plan-refusal t p ≡ 0
-unfolding plan-refusal jobs-refusal sum-refusal over norm
-plan-passed t p a =
-    both-pass (jobs-refusal (t .jobs) p) (sum-refusal (norms t) p) (ap (λ (b : Bool). cond b 0 8) (a .over-table))
-    (ap (λ (b : Bool). cond b 0 9) (le-leb (sum-of (norms t) p) 4096 (a .norm-small)))
-
-pub job-passed : (t : Table) (j : ℕ) → Accepted t → j < t .jobs → plan-refusal t (j ∷ []) ≡ 0
-unfolding norm
-job-passed t j k l =
-    plan-passed t (j ∷ []) (record { over-table = over-one t j l; norm-small = omega (arith, sum-one (norms t) j, k .small j) })

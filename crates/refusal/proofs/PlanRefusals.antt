@@ -1,7 +1,7 @@
 -- Refusals 8 and 9: by their tests, and by the array of norms as by the table; what neither meets is accepted. Assumes nothing.
 use mathlib.Core.Path.{_≡_, refl, sym, ap, ap₂, _∙_}
 use mathlib.Core.Bool.{Bool, true, false, cond}
-use mathlib.Core.List.{List}
+use mathlib.Core.List.{List, [], _∷_}
 use Prim.Native.Nat.{ℕ, suc, _≤_, _<_}
 use native.Mathlib.Omega.{arith}
 use lib.Dec.{leb}
@@ -9,11 +9,12 @@ use borrow.Author.Tests.{leb-true, le-leb, lt-leb}
 use Rattle.bpa.specs.Plans.{Table, all-below, over}
 use Rattle.bpa.specs.Norms.{sum-of, norms, norm}
 use Rattle.bpa.proofs.Basics.JobsBelow.{below-more}
+use Rattle.bpa.proofs.Basics.Plans.{over-one, sum-one}
 use Rattle.answer.specs.Refusals.{or-else}
-use Rattle.answer.proofs.RefusalChains.{neither}
+use Rattle.answer.proofs.RefusalChains.{neither, both-pass}
 use Rattle.norm.specs.NormArrays.{ExactNorms}
 use Rattle.norm.proofs.Agreement.{sum-agree}
-use Rattle.refusal.specs.Refusals.{jobs-refusal, sum-refusal, plan-refusal, plans-refusal, AcceptedPlan}
+use Rattle.refusal.specs.Refusals.{jobs-refusal, sum-refusal, plan-refusal, plans-refusal, Accepted, AcceptedPlan}
 
 -- a test that refuses by a number
 passed : (b : Bool) (v : ℕ) → cond b 0 (suc v) ≡ 0 → b ≡ true
@@ -69,6 +70,18 @@ module _ (t : Table) (p : List ℕ) where
   pub accepted-plan : plan-refusal t p ≡ 0 → AcceptedPlan t p
   unfolding plan-refusal
   accepted-plan h = let (f, g) = neither (jobs-refusal (t .jobs) p) (sum-refusal (norms t) p) h in accepted f g
+
+-- and a plan that is accepted meets neither; so the plan of one job of an accepted table
+pub plan-passed : (t : Table) (p : List ℕ) → AcceptedPlan t p → plan-refusal t p ≡ 0
+unfolding plan-refusal jobs-refusal sum-refusal over norm
+plan-passed t p a =
+    both-pass (jobs-refusal (t .jobs) p) (sum-refusal (norms t) p) (ap (λ (b : Bool). cond b 0 8) (a .over-table))
+    (sym (norm-small (norms t) p (a .norm-small)))
+
+pub job-passed : (t : Table) (j : ℕ) → Accepted t → j < t .jobs → plan-refusal t (j ∷ []) ≡ 0
+unfolding norm
+job-passed t j k l =
+    plan-passed t (j ∷ []) (record { over-table = over-one t j l; norm-small = omega (arith, sum-one (norms t) j, k .small j) })
 
 pub accepted-plans : (t : Table) (p q : List ℕ) → plans-refusal t p q ≡ 0 → AcceptedPlan t p × AcceptedPlan t q
 unfolding plans-refusal
