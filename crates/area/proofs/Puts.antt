@@ -4,9 +4,8 @@ use mathlib.Core.List.{List, _++_, append-assoc}
 use Prim.Native.Nat.{ℕ, _+_, _-_, _≤_}
 use native.Mathlib.Omega.{arith}
 use lib.ListN.{length, take, drop, length-append, length-drop}
-use lib.Seq.{length-take-le, take-at, drop-at, drop-drop, take-append-le, take-append-add, take-take, slice}
+use lib.Seq.{length-take-le, take-at, drop-at, drop-drop, take-append-le, take-take}
 use Rattle.area.specs.Areas.{put}
-use Rattle.area.proofs.Parts.{part}
 
 module _ (i : ℕ) (new xs : List ℕ) (inside : i ≤ length xs) where
   front-length : length (take i xs ++ new) ≡ i + length new
@@ -46,16 +45,3 @@ module _ (i : ℕ) (new xs : List ℕ) (fits : i + length new ≤ length xs) whe
   take-put k l =
       let e : length (take i xs) ≡ i = length-take-le i xs (omega arith) in
       take-append-le k (take i xs) (new ++ drop (i + length new) xs) (omega arith) ∙ take-take k i xs l
-
-  pub slice-put : (end : ℕ) → i + length new ≤ end → end ≤ length xs →
-      slice i end (put i new xs) ≡ new ++ slice (i + length new) end xs
-  slice-put end a b =
-      let m = i + length new in
-      let n = end - m in
-      let j : length (take i xs ++ new) + n ≡ end = omega (arith, front-length i new xs inside) in
-      let k : m + n ≡ end = omega arith in
-      ap (λ (e : ℕ). drop i (take e (put i new xs))) (sym j)
-      ∙ ap (λ (l : List ℕ). drop i (take (length (take i xs ++ new) + n) l)) (parts i new xs inside)
-      ∙ ap (drop i) (take-append-add (take i xs ++ new) (drop m xs) n ∙ append-assoc (take i xs) new (take n (drop m xs)))
-      ∙ drop-at (take i xs) (new ++ take n (drop m xs)) i (length-take-le i xs (omega arith))
-      ∙ ap (λ (l : List ℕ). new ++ l) (part m n xs ∙ ap (λ (e : ℕ). slice m e xs) k)

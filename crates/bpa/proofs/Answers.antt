@@ -8,11 +8,11 @@ use lib.ListN.{length}
 use Rattle.bpa.specs.Plans.{Table, over}
 use Rattle.bpa.specs.Norms.{norms, norm, Good}
 use Rattle.bpa.specs.Bisimilar.{Approx, Any-bisimulation, Bisimilar, Lowest, Form}
-use Rattle.bpa.specs.Method.{Base, final-base, same, prime-form}
+use Rattle.bpa.specs.Method.{final-base, same, prime-form}
 use Rattle.bpa.proofs.Rounds.Equivalence.{Equivalent, any-within, bisimilar-equivalent, equivalent-norm}
 use Rattle.bpa.proofs.Base.ExactBase.{Exact, exact-base}
 use Rattle.bpa.proofs.Base.MethodDecides.{deciding-rounds, judged-equivalent, equivalent-judged, judged-apart, equivalent-bisimilar}
-use Rattle.bpa.proofs.Forms.PrimeForms.{form-of, form-twice, form-same, form-tells}
+use Rattle.bpa.proofs.Forms.PrimeForms.{form-twice, form-same, form-tells}
 use Rattle.bpa.proofs.Forms.FormMeaning.{lowest-form, form-there, form-only, forms-same, forms-tell, form-the-longest}
 
 -- two plans that match for so many rounds are bisimilar
@@ -91,8 +91,3 @@ module _ (t : Table) (g : Good t (norms t)) where
   -- a lowest prime is its own prime form
   pub lowest-own-form : (j : ℕ) → Lowest t j → Form t (j ∷ []) (j ∷ [])
   lowest-own-form = lowest-form t (norms t) g back
-
-  -- any norms and any base that serve the method give the same answers
-  module _ (ns : List ℕ) (k : Good t ns) (b : Base) (x : Exact t ns b) where
-    pub form-same-form : (p : List ℕ) → over t p ≡ true → form-of t ns b p ≡ prime-form t p
-    form-same-form p o = form-single p (form-of t ns b p) (form-there t ns k back b x p o)

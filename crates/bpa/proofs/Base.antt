@@ -6,4 +6,3 @@ pub mod Refinement
 pub mod StableBase
 pub mod ExactBase
 pub mod MethodDecides
-pub mod SameBase

@@ -7,3 +7,4 @@ pub mod JobsBelow
 pub mod Plans
 pub mod Moves
 pub mod Order
+pub mod SameSteps

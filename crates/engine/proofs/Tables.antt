@@ -1,34 +1,59 @@
 -- From good norms to the prime rows, and from these to the answers. Assumes nothing.
-use mathlib.Core.Path.{_≡_, sym, ap, _∙_, subst}
+use mathlib.Core.Path.{_≡_, refl, sym, ap, _∙_, subst}
 use mathlib.Core.Bool.{Bool, true}
-use mathlib.Core.List.{List}
-use Prim.Native.Nat.{ℕ, _+_, _-_, _≤_, _<_, min}
+use mathlib.Core.List.{List, [], _++_, append-nil}
+use Prim.Native.Nat.{ℕ, _+_, _≤_, _<_, min}
 use native.Mathlib.Omega.{arith}
 use lib.IntN.{ℤ, pos, negsuc}
 use lib.ListN.{length, take}
-use lib.Seq.{take-at}
-use borrow.Rule.Slice.PartMut.{putMid, postOf}
-use Rattle.bpa.specs.Plans.{all-below, over}
-use Rattle.bpa.specs.Norms.{sum-of, Good}
-use Rattle.bpa.specs.Method.{expand, prime-rows, final-base, same, prime-form}
-use Rattle.bpa.proofs.Base.ExactBase.{Exact, exact-base}
+use Rattle.bpa.specs.Plans.{Table, all-below, over}
+use Rattle.bpa.specs.Norms.{sum-of, norms, Good}
+use Rattle.bpa.specs.Method.{expand, same, prime-form}
+use Rattle.bpa.proofs.Basics.Cases.{same-test}
+use Rattle.bpa.proofs.Basics.Plans.{length-norm}
+use Rattle.decompositions.specs.Decompositions.{Final}
+use Rattle.decompositions.proofs.Expansions.{decomposed-over, decomposed-norm}
 use Rattle.rules.specs.Places.{table-of}
 use Rattle.norm.specs.NormArrays.{GoodNorms}
 use Rattle.refusal.proofs.NormArray.{array-good}
-use Rattle.prepare.specs.Prepared.{Normed, Lowered}
-use Rattle.candidate.specs.Ready.{Ready}
-use Rattle.rows.specs.Region.{row, Within, Readable}
-use Rattle.rows.specs.Replacing.{NewRows}
-use Rattle.judge.specs.Judging.{byte-base}
-use Rattle.base.specs.Held.{Final}
+use Rattle.prepare.specs.Prepared.{Normed}
+use Rattle.rows.specs.Region.{row, Within, Readable, Comparable, old-half}
 use Rattle.rows.proofs.WrittenPlans.{within-readable}
 use Rattle.form.specs.Written.{Tells}
 use Rattle.form.proofs.Lengths.{form-long}
-use Rattle.prime_table.proofs.Forms.{exact-agrees, form-fits, form-is, answer-is}
+use Rattle.facts.specs.Facts.{table-by, FactsOf}
+use Rattle.refining.specs.Rounds.{FinalIn}
 use Rattle.answer.specs.Answer.{Writes}
 use Rattle.answer.proofs.Answers.{too-short, written}
 use Rattle.area.specs.Areas.{put, IsPut}
 use Rattle.engine.specs.Engine.{PrimeRows}
+
+-- THE LAST ROWS of the rounds are prime rows
+module _
+    (t : Table) (ns : List ℕ) (g : Good t ns) (lens region : List ℕ)
+    (w : Within (t .jobs) lens region) (f : Final t ns (row lens region)) where
+  rows-long : (p : List ℕ) → over t p ≡ true → length (expand (row lens region) p) ≡ sum-of lens p
+  unfolding over
+  rows-long p o = form-long lens region p (within-readable (t .jobs) lens region p w o)
+
+  -- no form is longer than the norm of its plan
+  rows-short : (p : List ℕ) → over t p ≡ true → sum-of lens p ≤ sum-of ns p
+  rows-short p o =
+      let e = expand (row lens region) p in
+      omega (
+        arith,
+        rows-long p o,
+        length-norm t ns g e (decomposed-over t ns (row lens region) (f .decomposition) p o),
+        decomposed-norm t ns (row lens region) (f .decomposition) p o,
+      )
+
+  final-prime : PrimeRows t ns lens region
+  final-prime = record {
+    within = w;
+    form = f .form;
+    short = rows-short;
+    told = λ a p q o u s. same-test a (same t p q) (λ e. f .equal-same p q o u (s .same e)) (λ e. s .told (f .same-equal p q o u e));
+  }
 
 module _ (n : ℕ) (rs ns : List ℕ) (g : GoodNorms n rs ns) where
   good : Good (table-of n rs) ns
@@ -37,48 +62,41 @@ module _ (n : ℕ) (rs ns : List ℕ) (g : GoodNorms n rs ns) where
   pub normed : Normed n rs ns
   normed = record { list = g .list; good = good; small = λ j h. g .exact .few j }
 
-  pub ready : (low : List ℕ) → Lowered n rs ns low → Ready n rs ns low
-  ready low l = record {
-    list = g .list;
-    good = good;
-    small = λ j h. g .exact .few j;
-    low-place = l .inside;
-    low-rule = l .after;
-  }
+  module _ (sums next facts : List ℕ) (f : FactsOf n rs ns sums next facts) where
+    -- the table of the facts is the table of the list
+    same-table : table-by facts rs ≡ table-of n rs
+    unfolding table-by
+    same-table = ap (λ (k : ℕ). table-of k rs) (f .count)
 
-  -- THE PRIME ROWS by the final base
-  prime-rows-are : (base lens region : List ℕ) → Final n rs ns base →
-      NewRows n lens region (prime-rows (table-of n rs) ns (byte-base base)) → PrimeRows (table-of n rs) ns lens region
-  unfolding table-of
-  prime-rows-are base lens region f r =
-      let t = table-of n rs in
-      let b = byte-base base in
-      let x : Exact t ns b = exact-agrees t ns (final-base t ns) b (exact-base t ns good) (f .is) in
-      record {
-        within = r .within;
-        form = form-is t ns good b lens region r (g .good) x;
-        short = form-fits t ns good b lens region r;
-        told = answer-is t ns good b lens region r (g .good) x;
-      }
+    pub rounds-good : Good (table-by facts rs) (norms (table-by facts rs))
+    rounds-good = subst (λ t. Good t (norms t)) (sym same-table) (g .good)
 
-  -- the same, back in the area
-  pub prime-rows-in : (base lens area region : List ℕ) → Final n rs ns base →
-      NewRows n lens region (prime-rows (table-of n rs) ns (byte-base base)) →
-      PrimeRows (table-of n rs) ns lens (take 12288 (putMid 0 (12288 - 0) area region))
-  prime-rows-in base lens area region f r =
-      subst (PrimeRows (table-of n rs) ns lens) (sym (take-at region (postOf 0 (12288 - 0) area) 12288 (r .within .size)))
-      (prime-rows-are base lens region f r)
+    final-of : (lens area : List ℕ) → FinalIn rs facts lens area → Final (table-of n rs) ns (row lens (old-half area))
+    final-of lens area l =
+        subst (λ t. Final t ns (row lens (old-half area))) same-table
+        (subst (λ k. Final (table-by facts rs) k (row lens (old-half area))) (f .norms-are) (l .final))
+
+    within-of : (lens area : List ℕ) → FinalIn rs facts lens area → Within n lens (old-half area)
+    within-of lens area l = subst (λ k. Within k lens (old-half area)) (f .count) (l .within)
+
+    pub prime-rows-in : (lens area : List ℕ) → FinalIn rs facts lens area → PrimeRows (table-of n rs) ns lens (take 12288 area)
+    unfolding table-of old-half
+    prime-rows-in lens area l = final-prime (table-of n rs) ns good lens (take 12288 area) (within-of lens area l) (final-of lens area l)
 
 -- WHAT THE PRIME ROWS ANSWER
 module _ (n : ℕ) (rs ns lens region : List ℕ) (r : PrimeRows (table-of n rs) ns lens region) where
-  pub rows-within : Within n lens region
+  rows-within : Within n lens region
   unfolding table-of
   rows-within = r .within
 
-  pub rows-tell : (a : Bool) (p q : List ℕ) → all-below n p ≡ true → all-below n q ≡ true →
-      Tells a (expand (row lens region) p) (expand (row lens region) q) → a ≡ same (table-of n rs) p q
-  unfolding table-of over
-  rows-tell a p q o u s = r .told a p q o u s
+  -- two plans compared by them, with nothing behind the second
+  module _ (p q : List ℕ) (o : all-below n p ≡ true) (u : all-below n q ≡ true) where
+    pub rows-comparable : Comparable lens region p q
+    rows-comparable = record { jobs = n; within = rows-within; left = o; right = u }
+
+    pub rows-tell : (a : Bool) → Tells a (expand (row lens region) p) (expand (row lens region) q ++ []) → a ≡ same (table-of n rs) p q
+    unfolding table-of over
+    rows-tell a s = r .told a p q o u (rw append-nil at s)
 
   module _ (p : List ℕ) (o : all-below n p ≡ true) where
     pub readable : Readable lens region p

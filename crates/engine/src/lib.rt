@@ -1,13 +1,11 @@
 // From a list of rules and the norms of its jobs to the prime rows, and the answers that they give about plans.
-// The area that is worked in has two parts. Bytes 0 to 12287 are the rows, 24 of 512 bytes. Bytes 12288 to 18335 are the memory of
-// failed answers, 252 bytes for each of 24 jobs, which the base is worked out with.
-use base::final_base;
+// The area that is worked in has two halves, of 24 rows of 512 bytes each: decompositions are refined from one to the other, and the
+// prime rows are left in the first.
+use facts::facts_of;
 use form::same_forms;
 use norm::capped_sum;
-use order::order;
-use prepare::lowering_rules;
 use prepare::row_norms;
-use prime_table::prime_table;
+use refining::refine;
 use rows::expanding::write_expansion;
 ghost use mathlib.Core.Path.{_≡_};
 ghost use mathlib.Core.Bool.{true};
@@ -31,23 +29,13 @@ pub fn prime_rows(
 )
     requires { ⌜ GoodNorms jobs (now rules) (now norms) ⌝ }
     requires { ⌜ length (now lens) ≡ 24 ⌝ }
-    requires { ⌜ length (now area) ≡ 18336 ⌝ }
+    requires { ⌜ length (now area) ≡ 24576 ⌝ }
     ensures { λ _. ⌜ PrimeRows (table-of jobs (now (rules .entry))) (now (norms .entry)) (now (lens .exit)) (take 12288 (now (area .exit))) ⌝ }
 {
     let sums = row_norms(rules, norms);
-    let low = lowering_rules(jobs, rules, norms, &sums);
-    let ord = order(jobs, norms);
-    let base = final_base(jobs, rules, norms, &low, &sums, &ord, area);
-    prime_table(
-        jobs,
-        rules,
-        norms,
-        &low,
-        &base,
-        &ord,
-        lens,
-        &mut area[0..12288],
-    );
+    let mut next = [0u8; 252];
+    let facts = facts_of(jobs, rules, norms, &sums, &mut next);
+    *lens = refine(rules, &facts, &sums, &next, area);
 }
 
 // Whether two plans are the same. The prime rows are worked out in the area.
@@ -62,12 +50,12 @@ pub fn same(
     requires { ⌜ GoodNorms jobs (now rules) (now norms) ⌝ }
     requires { ⌜ all-below jobs (now left) ≡ true ⌝ }
     requires { ⌜ all-below jobs (now right) ≡ true ⌝ }
-    requires { ⌜ length (now area) ≡ 18336 ⌝ }
+    requires { ⌜ length (now area) ≡ 24576 ⌝ }
     ensures { λ r. ⌜ r ≡ method.same (table-of jobs (now (rules .entry))) (now (left .entry)) (now (right .entry)) ⌝ }
 {
     let mut lens = [0u16; 24];
     prime_rows(jobs, rules, norms, &mut lens, area);
-    same_forms(&area[0..12288], &lens, jobs, left, right)
+    same_forms(&area[0..12288], &lens, left, right, &right[0..0])
 }
 
 // The prime form of a plan, one byte a job, or refusal 10 with the output left as it was.
@@ -82,7 +70,7 @@ pub fn form(
     requires { ⌜ GoodNorms jobs (now rules) (now norms) ⌝ }
     requires { ⌜ all-below jobs (now plan) ≡ true ⌝ }
     requires { ⌜ sum-of (now norms) (now plan) ≤ 4096 ⌝ }
-    requires { ⌜ length (now area) ≡ 18336 ⌝ }
+    requires { ⌜ length (now area) ≡ 24576 ⌝ }
     ensures { λ r. ⌜ Writes 0 (method.prime-form (table-of jobs (now (rules .entry))) (now (plan .entry))) (now (out .entry)) r (now (out .exit)) ⌝ }
 {
     let mut lens = [0u16; 24];

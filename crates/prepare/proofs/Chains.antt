@@ -1,26 +1,16 @@
--- Walking along the chain of a job: its positions, and the moves of the rules from each on. Assumes nothing.
+-- Walking along the chain of a job: its positions, and that no rule of the job lies between them. Assumes nothing.
 use mathlib.Core.Path.{_≡_, sym, ap, _∙_}
-use mathlib.Core.Bool.{true, false}
-use mathlib.Core.List.{List, [], _∷_}
+use mathlib.Core.List.{List}
 use Prim.Native.Nat.{ℕ, suc, _+_, _-_, _≤_, _<_}
 use native.Mathlib.Nat.{zero-add}
 use native.Mathlib.Omega.{arith}
-use lib.ListN.{getD, drop, drop-of-length-le}
-use lib.Seq.{drop-drop, getD-drop}
-use Rattle.bpa.specs.Plans.{Move, job-moves}
+use lib.ListN.{getD, drop}
+use lib.Seq.{getD-drop}
 use Rattle.bpa.proofs.Basics.Cases.{never-both}
 use Rattle.rules.specs.Places.{rule-at, rule-count}
-use Rattle.prepare.specs.Prepared.{all-rules, seek, of-job, move-of, Chained, OnChain}
-use Rattle.prepare.proofs.FirstRule.{all-length, all-cons, seek-within, seek-passes, seek-before, all-at, moves-from, moves-here, moves-past}
+use Rattle.prepare.specs.Prepared.{all-rules, seek, of-job, Chained, OnChain}
+use Rattle.prepare.proofs.FirstRule.{seek-within, seek-passes, seek-before, all-at}
 use Rattle.prepare.proofs.FirstRuleArray.{own-job, job-own}
-
--- the moves of a job by the rules from a position on, with a plan behind
-abbrev pub moves-at : (rules : List ℕ) → (job : ℕ) → (behind : List ℕ) → (position : ℕ) → List Move
-moves-at rs j xs i = job-moves j xs (drop i (all-rules rs))
-
-pub moves-end : (rs : List ℕ) (j : ℕ) (xs : List ℕ) (i : ℕ) → rule-count rs ≤ i → moves-at rs j xs i ≡ []
-unfolding job-moves
-moves-end rs j xs i h = ap (job-moves j xs) (drop-of-length-le (all-rules rs) {i = i} (omega (arith, all-length rs)))
 
 module _ (rs : List ℕ) (j : ℕ) where
   -- a search from a position ends on the chain
@@ -42,23 +32,6 @@ module _ (rs : List ℕ) (j : ℕ) where
       back : i + (m - i) ≡ m
       back = omega arith
 
-  skips : (xs : List ℕ) (i k : ℕ) → k ≡ i + seek (of-job j) (drop i (all-rules rs)) → moves-at rs j xs i ≡ moves-at rs j xs k
-  skips xs i k e =
-      let l = drop i (all-rules rs) in
-      moves-from j xs l
-      ∙ ap (job-moves j xs) (drop-drop (seek (of-job j) l) i (all-rules rs) ∙ ap (λ (m : ℕ). drop m (all-rules rs)) (sym e))
-
-  -- one rule more
-  pub moves-step : (xs : List ℕ) (i : ℕ) → i < rule-count rs → of-job j (rule-at rs i) ≡ true →
-      moves-at rs j xs i ≡ move-of rs i xs ∷ moves-at rs j xs (suc i)
-  moves-step xs i h e =
-      ap (job-moves j xs) (all-cons rs i h) ∙ moves-here j xs (rule-at rs i) (drop (suc i) (all-rules rs)) e
-
-  pub moves-other : (xs : List ℕ) (i : ℕ) → i < rule-count rs → of-job j (rule-at rs i) ≡ false →
-      moves-at rs j xs i ≡ moves-at rs j xs (suc i)
-  moves-other xs i h e =
-      ap (job-moves j xs) (all-cons rs i h) ∙ moves-past j xs (rule-at rs i) (drop (suc i) (all-rules rs)) e
-
 module _ (rs first next : List ℕ) (c : Chained rs first next) (j : ℕ) where
   start-at : j < 24 → getD first j 0 ≡ 0 + seek (of-job j) (drop 0 (all-rules rs))
   start-at h = c .starts j h ∙ sym (zero-add _)
@@ -68,9 +41,6 @@ module _ (rs first next : List ℕ) (c : Chained rs first next) (j : ℕ) where
 
   pub start-gap : j < 24 → (m : ℕ) → m < getD first j 0 → rule-at rs m .job ≡ j → ⊥
   start-gap h m b = passes rs j 0 (getD first j 0) m (start-at h) (omega arith) b (chain-start h .within)
-
-  pub moves-start : (xs : List ℕ) → j < 24 → job-moves j xs (all-rules rs) ≡ moves-at rs j xs (getD first j 0)
-  moves-start xs h = skips rs j xs 0 (getD first j 0) (start-at h)
 
   module _ (i : ℕ) (h : i < rule-count rs) (on : OnChain rs j i) where
     next-at : getD next i 0 ≡ suc i + seek (of-job j) (drop (suc i) (all-rules rs))
@@ -85,7 +55,3 @@ module _ (rs first next : List ℕ) (c : Chained rs first next) (j : ℕ) where
 
     pub chain-rises : i < getD next i 0
     chain-rises = omega (arith, next-at)
-
-    pub moves-next : (xs : List ℕ) → moves-at rs j xs i ≡ move-of rs i xs ∷ moves-at rs j xs (getD next i 0)
-    moves-next xs =
-        moves-step rs j xs i h (job-own j (rule-at rs i) (on .own h)) ∙ ap (λ (l : List Move). move-of rs i xs ∷ l) (skips rs j xs (suc i) (getD next i 0) next-at)

@@ -1,18 +1,18 @@
 -- Searches among the rules of a list: the first rule that passes a test, found from the last rule to the first. Assumes nothing.
 use mathlib.Core.Path.{_≡_, sym, ap, _∙_, subst}
 use mathlib.Core.Bool.{Bool, true, false, true≢false}
-use mathlib.Core.List.{List, [], _∷_, _++_, List·Memᴰ, List·Memᴰ·not-nil, List·Memᴰ·cases-cons}
+use mathlib.Core.List.{List, [], _∷_, List·Memᴰ, List·Memᴰ·not-nil, List·Memᴰ·cases-cons}
 use mathlib.Core.Logic.{⊎-elim}
 use Prim.Native.Nat.{ℕ, zero, suc, _+_, _≤_, _<_}
 use native.Mathlib.Omega.{arith}
 use lib.ListN.{length, getD, drop, length-drop}
-use lib.Seq.{drop-cons, getD-drop, drop-length, drop-nil}
-use Rattle.bpa.specs.Plans.{Rule, job-moves}
+use lib.Seq.{drop-cons, getD-drop, drop-length}
+use Rattle.bpa.specs.Plans.{Rule}
 use Rattle.bpa.specs.Method.{lowering}
 use Rattle.bpa.proofs.Basics.Cases.{by-test}
 use Rattle.rules.specs.Places.{rule-at, rule-count}
 use Rattle.rules.proofs.ListLaws.{length-rules-in, rules-in-at}
-use Rattle.prepare.specs.Prepared.{all-rules, seek, of-job, lowers}
+use Rattle.prepare.specs.Prepared.{all-rules, seek, lowers}
 
 -- THE RULES FROM A POSITION ON
 pub all-length : (rs : List ℕ) → length (all-rules rs) ≡ rule-count rs
@@ -99,25 +99,6 @@ module _ (f : Rule → Bool) where
       let d = rule-at rs k in
       ap f (sym (all-at rs k d h) ∙ ap (λ (m : ℕ). getD (all-rules rs) m d) e ∙ sym (getD-drop i (all-rules rs) (seek f l) d))
       ∙ seek-hit l d (omega (arith, length-drop i (all-rules rs), all-length rs))
-
--- the moves of a job: a rule of another job makes none of them, so they are those of the rules from its first on
-pub moves-past : (j : ℕ) (xs : List ℕ) (r : Rule) (l : List Rule) → of-job j r ≡ false → job-moves j xs (r ∷ l) ≡ job-moves j xs l
-unfolding job-moves of-job
-moves-past j xs r l e = rw e
-
-pub moves-here : (j : ℕ) (xs : List ℕ) (r : Rule) (l : List Rule) → of-job j r ≡ true →
-    job-moves j xs (r ∷ l) ≡ record { move = r .move; rest = r .after ++ xs } ∷ job-moves j xs l
-unfolding job-moves of-job
-moves-here j xs r l e = rw e
-
-pub moves-from : (j : ℕ) (xs : List ℕ) (l : List Rule) → job-moves j xs l ≡ job-moves j xs (drop (seek (of-job j) l) l)
-moves-from j xs [] = ap (job-moves j xs) (sym (drop-nil (seek (of-job j) [])))
-moves-from j xs (r ∷ l) =
-    by-test (of-job j r)
-    (λ e. sym (ap (λ (k : ℕ). job-moves j xs (drop k (r ∷ l))) (seek-here (of-job j) r l e)))
-    (λ e.
-    moves-past j xs r l e ∙ moves-from j xs l
-    ∙ sym (ap (λ (k : ℕ). job-moves j xs (drop k (r ∷ l))) (seek-past (of-job j) r l e)))
 
 -- the jobs after the first norm-lowering rule
 pub lowering-at : (ns : List ℕ) (j : ℕ) (l : List Rule) (d : Rule) → seek (lowers ns j) l < length l →

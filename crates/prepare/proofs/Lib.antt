@@ -4,3 +4,4 @@ pub mod FirstRuleArray
 pub mod LoweringRules
 pub mod Chains
 pub mod Marks
+pub mod PassedRules

@@ -15,7 +15,7 @@ use lib.Seq.{getD-set-same, getD-set-other}
 use Rattle.bpa.specs.Plans.{Rule}
 use Rattle.bpa.specs.Norms.{sum-of}
 use Rattle.bpa.proofs.Basics.Cases.{by-test, never-both}
-use Rattle.bpa.proofs.Base.SameBase.{Follows, Same-steps}
+use Rattle.bpa.proofs.Basics.SameSteps.{Follows, Same-steps}
 use Rattle.rules.specs.Places.{rule-at, rule-count, table-of}
 use Rattle.prepare.specs.Prepared.{all-rules, of-job, step-bit, mark, Marked}
 use Rattle.prepare.proofs.FirstRule.{all-cons, all-end}

@@ -1,12 +1,12 @@
 -- What is worked out once from a list of rules and the norms of its jobs. Assumes nothing: these are definitions.
 use mathlib.Core.Path.{_≡_}
 use mathlib.Core.Bool.{Bool, true, _&&_, cond}
-use mathlib.Core.List.{List, [], _∷_, _++_}
+use mathlib.Core.List.{List, [], _∷_}
 use Prim.Native.Nat.{ℕ, suc, _+_, _-_, _*_, _%_, _^_, _≤_, _<_}
 use lib.Bits.{bitOr}
 use lib.Dec.{eqb}
 use lib.ListN.{length, getD, drop}
-use Rattle.bpa.specs.Plans.{Rule, Move, all-below}
+use Rattle.bpa.specs.Plans.{Rule, all-below}
 use Rattle.bpa.specs.Norms.{sum-of, Good}
 use Rattle.bpa.specs.Method.{lowering}
 use Rattle.rules.specs.Places.{rule-at, rule-count, rules-in, table-of}
@@ -21,10 +21,6 @@ pub record Normed (n : ℕ) (rs ns : List ℕ) : Type 0 where
 -- the rules of a list, in its order
 unfoldable pub all-rules : (rules : List ℕ) → List Rule
 all-rules rs = rules-in (rule-count rs) rs
-
--- the move of the rule at a position, with a plan behind
-abbrev pub move-of : (rules : List ℕ) → (position : ℕ) → (behind : List ℕ) → Move
-move-of rs i xs = record { move = rule-at rs i .move; rest = rule-at rs i .after ++ xs }
 
 -- how many rules stand before the first that passes a test; all of them, if none does
 unfoldable pub seek : (test : Rule → Bool) → List Rule → ℕ

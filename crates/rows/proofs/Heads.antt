@@ -1,10 +1,7 @@
 -- The leftmost difference of two plans by their heads. Assumes nothing.
-use mathlib.Core.Path.{_≡_, refl}
-use mathlib.Core.List.{List, [], _∷_}
-use Prim.Native.Nat.{ℕ, suc, _+_, _≤_, _<_}
-use native.Mathlib.Numerals.{add-one}
-use lib.ListN.{length, getD, drop, drop-of-length-le}
-use lib.Seq.{drop-cons}
+use mathlib.Core.Path.{_≡_, refl, _∙_}
+use mathlib.Core.List.{List, [], _∷_, _++_}
+use Prim.Native.Nat.{ℕ}
 use borrow.Author.Tests.{eq-eqb, ne-eqb}
 use Rattle.bpa.specs.Method.{first-difference, equal, ends, differ}
 
@@ -28,25 +25,7 @@ pub right-ends : (x : ℕ) (p : List ℕ) → first-difference (x ∷ p) [] ≡ 
 unfolding first-difference
 right-ends x p = refl
 
--- the same of two plans at one place
-module _ (p q : List ℕ) (i : ℕ) where
-  pub place-equal : i < length p → i < length q → getD p i 0 ≡ getD q i 0 →
-      first-difference (drop i p) (drop i q) ≡ first-difference (drop (i + 1) p) (drop (i + 1) q)
-  place-equal a b e =
-      rw (drop-cons p i 0 a, drop-cons q i 0 b, add-one)
-      (heads-equal (getD p i 0) (getD q i 0) (drop (suc i) p) (drop (suc i) q) e)
-
-  pub place-differ : i < length p → i < length q → (getD p i 0 ≡ getD q i 0 → ⊥) →
-      first-difference (drop i p) (drop i q) ≡ differ (getD p i 0) (getD q i 0)
-  place-differ a b d =
-      rw (drop-cons p i 0 a, drop-cons q i 0 b)
-      (heads-differ (getD p i 0) (getD q i 0) (drop (suc i) p) (drop (suc i) q) d)
-
-  pub place-ends-left : length p ≤ i → i < length q → first-difference (drop i p) (drop i q) ≡ ends
-  place-ends-left a b = rw (drop-of-length-le p a, drop-cons q i 0 b) (left-ends (getD q i 0) (drop (suc i) q))
-
-  pub place-ends-right : i < length p → length q ≤ i → first-difference (drop i p) (drop i q) ≡ ends
-  place-ends-right a b = rw (drop-cons p i 0 a, drop-of-length-le q b) (right-ends (getD p i 0) (drop (suc i) p))
-
-  pub place-both-end : length p ≤ i → length q ≤ i → first-difference (drop i p) (drop i q) ≡ equal
-  place-both-end a b = rw (drop-of-length-le p a, drop-of-length-le q b) both-end
+-- a common front is passed over
+pub fronts-equal : (r p q : List ℕ) → first-difference (r ++ p) (r ++ q) ≡ first-difference p q
+fronts-equal [] p q = refl
+fronts-equal (x ∷ r) p q = heads-equal x x (r ++ p) (r ++ q) refl ∙ fronts-equal r p q

@@ -30,12 +30,3 @@ pub fn write_expansion(
     }
     end
 }
-
-// The rows of a plan's jobs behind the one job that stands already. It gives the length of the whole.
-pub fn write_rest(rows: &[u8], lens: &[u16; 24], plan: &[u8], out: &mut [u8]) -> usize
-    requires { ⌜ Readable (now lens) (now rows) (now plan) ⌝ }
-    requires { ⌜ 1 + length (expand (row (now lens) (now rows)) (now plan)) ≤ length (now out) ⌝ }
-    ensures { λ r. ⌜ IsPut 1 (expand (row (now (lens .entry)) (now (rows .entry))) (now (plan .entry))) (now (out .entry)) r (now (out .exit)) ⌝ }
-{
-    write_expansion(rows, lens, plan, out, 1)
-}

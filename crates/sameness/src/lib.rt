@@ -20,7 +20,7 @@ fn compare_in(image: &[u8], left: &[u8], right: &[u8], space: &mut [u8]) -> i32
         &norms,
         left,
         right,
-        &mut space[0..18336],
+        &mut space[0..24576],
     ))
 }
 
@@ -49,7 +49,7 @@ fn form_in(image: &[u8], plan: &[u8], out: &mut [u8], space: &mut [u8]) -> i32
         &norms,
         plan,
         out,
-        &mut space[0..18336],
+        &mut space[0..24576],
     )
 }
 

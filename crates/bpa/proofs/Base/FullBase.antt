@@ -1,22 +1,19 @@
 -- A base that is full at a level stays full at a higher one when pairs that do not fit are dropped. Assumes nothing.
-use mathlib.Core.Path.{_≡_, ap, subst₂, _∙_}
-use mathlib.Core.Bool.{true, _&&_}
+use mathlib.Core.Path.{_≡_, ap, _∙_}
+use mathlib.Core.Bool.{true}
 use mathlib.Core.List.{List, [], _∷_, List·Memᴰ, List·Memᴰ·not-nil, List·Memᴰ·cases-cons}
 use mathlib.Core.Logic.{⊎-elim}
 use Prim.Native.Nat.{ℕ, suc, _+_, _≤_, _<_, max}
 use native.Mathlib.Omega.{arith}
-use lib.Dec.{eqb}
 use lib.ListN.{getD}
-use borrow.Author.Tests.{eqb-true, eq-eqb}
-use Rattle.bpa.specs.Plans.{Rule, Table, over, Step}
+use Rattle.bpa.specs.Plans.{Rule, Table, Step}
 use Rattle.bpa.specs.Norms.{sum-of, Good}
 use Rattle.bpa.specs.Bisimilar.{Approx}
-use Rattle.bpa.specs.Method.{precedes, candidate, Base, judged, fits}
+use Rattle.bpa.specs.Method.{candidate, Base, judged, fits}
 use Rattle.bpa.specs.Bases.{Full}
 use Rattle.bpa.proofs.Basics.Plans.{over-one, over-cons, sum-append, step-over}
 use Rattle.bpa.proofs.Rounds.Approximants.{approx-sym, approx-mono}
 use Rattle.bpa.proofs.Rounds.Cancellation.{any-reduct}
-use Rattle.bpa.proofs.Basics.Cases.{by-test, and-left, and-right, and-both, never-both}
 use Rattle.bpa.proofs.Basics.Order.{precedes-le}
 use Rattle.bpa.proofs.Judge.Candidates.{candidate-reduces, candidate-over}
 use Rattle.bpa.proofs.Base.MatchedMoves.{simulates-matched}
@@ -84,25 +81,3 @@ module _ (t : Table) (ns : List ℕ) (g : Good t ns) where
       (λ a q s′.
       let (p, s, m) = h′ .1 a q s′ in
       (p, s, judged-symmetric t ns b q p ∙ rests a p q s s′ (approx-sym t k q p m)))
-
--- all pairs but one stay held
-abbrev pub Others-held : Table → (y x : ℕ) → (before after : Base) → Type 0
-Others-held t y x b b′ =
-    (i j : ℕ) → i < t .jobs → j < t .jobs → ((i ≡ y) × (j ≡ x) → ⊥) → b i j ≡ true → b′ i j ≡ true
-
--- a pair may be dropped that does not match at the higher level, whatever plan follows its lesser job
-pub full-without : (t : Table) (ns : List ℕ) (n m y x : ℕ) (b b′ : Base) → n ≤ m → Full t ns n b →
-    (y < t .jobs → x < t .jobs → precedes ns x y ≡ true → (δ : List ℕ) → over t δ ≡ true →
-    Approx t m (y ∷ []) (x ∷ δ) → ⊥) → Others-held t y x b b′ → Full t ns m b′
-full-without t ns n m y x b b′ l full none keep i j hi hj o δ oδ h =
-    by-test (eqb i y && eqb j x)
-    (λ e.
-    let ei : i ≡ y = eqb-true i y (and-left (eqb i y) (eqb j x) e) in
-    let ej : j ≡ x = eqb-true j x (and-right (eqb i y) (eqb j x) e) in
-    absurd (none (rw ei at hi) (rw ej at hj) (rw (ei, ej) at o) δ oδ
-    (subst₂ (λ a c. Approx t m (a ∷ []) (c ∷ δ)) ei ej h)))
-    (λ e.
-    keep i j hi hj
-    (λ d. never-both (eqb i y && eqb j x)
-    (and-both (eqb i y) (eqb j x) (eq-eqb i y (d .0)) (eq-eqb j x (d .1))) e)
-    (full-higher t ns n m b l full i j hi hj o δ oδ h))

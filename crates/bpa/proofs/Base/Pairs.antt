@@ -1,6 +1,6 @@
 -- Lists of pairs as bases: which pairs the first base and what a round keeps hold. Assumes nothing.
-use mathlib.Core.Path.{_≡_, refl, ap, ap₂, sym, subst, subst₂, _∙_}
-use mathlib.Core.Bool.{Bool, true, false, _&&_, _||_, cond, or-assoc, and-true, and-false, and-or-distrib-right, false≢true}
+use mathlib.Core.Path.{_≡_, refl, ap, ap₂, sym, subst, _∙_}
+use mathlib.Core.Bool.{Bool, true, false, _&&_, _||_, cond, or-assoc, and-true, and-false, and-or-distrib-right}
 use mathlib.Core.List.{List, [], _∷_, _++_}
 use mathlib.Core.Logic.{⊎-elim}
 use Prim.Native.Nat.{ℕ, zero, suc, _≤_, _<_}
@@ -11,7 +11,7 @@ use lib.ListN.{length}
 use borrow.Author.Tests.{eqb-true, eq-eqb}
 use Rattle.bpa.specs.Plans.{Table}
 use Rattle.bpa.specs.Method.{precedes, Pair, holds, pairs-of, pairs-below, first-base, keep-fitting}
-use Rattle.bpa.proofs.Basics.Cases.{by-test, and-left, and-right, and-both, or-cases, or-left, or-right}
+use Rattle.bpa.proofs.Basics.Cases.{by-test, and-left, and-right, and-both, or-left, or-right}
 
 abbrev is-pair : Pair → (y x : ℕ) → Bool
 is-pair p y x = eqb (p .greater) y && eqb (p .lesser) x
@@ -68,20 +68,6 @@ keep-all f (p ∷ ps) e =
 
 -- THE FIRST BASE
 module _ (ns : List ℕ) where
-  pairs-of-within : (y n z x : ℕ) → holds (pairs-of ns y n) z x ≡ true → precedes ns x z ≡ true
-  unfolding pairs-of holds
-  pairs-of-within y zero z x h = absurd (false≢true h)
-  pairs-of-within y (suc n) z x h =
-      let p : Pair = record { greater = y; lesser = n } in
-      ⊎-elim
-      (λ e.
-      let i : is-pair p z x ≡ true = and-right (precedes ns n y) (is-pair p z x) e in
-      subst₂ (λ a b. precedes ns b a ≡ true) (eqb-true y z (and-left (eqb y z) (eqb n x) i))
-      (eqb-true n x (and-right (eqb y z) (eqb n x) i)) (and-left (precedes ns n y) (is-pair p z x) e))
-      (pairs-of-within y n z x)
-      (or-cases (precedes ns n y && is-pair p z x) (holds (pairs-of ns y n) z x)
-      (sym (holds-cond (precedes ns n y) p (pairs-of ns y n) z x) ∙ h))
-
   pairs-of-holds : (y n x : ℕ) → x < n → precedes ns x y ≡ true → holds (pairs-of ns y n) y x ≡ true
   unfolding pairs-of
   pairs-of-holds y zero x l o = absurd (omega arith)
@@ -98,14 +84,6 @@ module _ (ns : List ℕ) where
       or-right (precedes ns n y && is-pair p y x) (holds (pairs-of ns y n) y x) (pairs-of-holds y n x (omega arith) o))
       (eq-or-lt-of-le l)
 
-  pairs-below-within : (m n y x : ℕ) → holds (pairs-below ns m n) y x ≡ true → precedes ns x y ≡ true
-  unfolding pairs-below holds
-  pairs-below-within m zero y x h = absurd (false≢true h)
-  pairs-below-within m (suc n) y x h =
-      ⊎-elim (pairs-of-within n m y x) (pairs-below-within m n y x)
-      (or-cases (holds (pairs-of ns n m) y x) (holds (pairs-below ns m n) y x)
-      (sym (holds-append (pairs-of ns n m) (pairs-below ns m n) y x) ∙ h))
-
   pairs-below-holds : (m n y x : ℕ) → y < n → x < m → precedes ns x y ≡ true → holds (pairs-below ns m n) y x ≡ true
   unfolding pairs-below
   pairs-below-holds m zero y x hy hx o = absurd (omega arith)
@@ -119,10 +97,6 @@ module _ (ns : List ℕ) where
       (λ (k : suc y < suc n).
       or-right (holds (pairs-of ns n m) y x) (holds (pairs-below ns m n) y x)
       (pairs-below-holds m n y x (omega arith) hx o)) (eq-or-lt-of-le hy)
-
-pub first-within : (t : Table) (ns : List ℕ) (y x : ℕ) → holds (first-base t ns) y x ≡ true → precedes ns x y ≡ true
-unfolding first-base
-first-within t ns y x h = pairs-below-within ns (t .jobs) (t .jobs) y x h
 
 pub first-holds : (t : Table) (ns : List ℕ) (y x : ℕ) → y < t .jobs → x < t .jobs → precedes ns x y ≡ true →
     holds (first-base t ns) y x ≡ true

@@ -1,4 +1,4 @@
--- The rounds: they keep a base full and within the first base, and end with one that is stable. Assumes nothing.
+-- The rounds: they keep a base full, and end with one that is stable. Assumes nothing.
 use mathlib.Core.Path.{_≡_, ap, sym, subst, _∙_}
 use mathlib.Core.Bool.{true, false, _&&_}
 use mathlib.Core.List.{List}
@@ -9,11 +9,11 @@ use lib.ListN.{length}
 use borrow.Author.Tests.{eqb-true, eqb-false}
 use Rattle.bpa.specs.Plans.{Table}
 use Rattle.bpa.specs.Norms.{Good}
-use Rattle.bpa.specs.Method.{precedes, Base, fits, Pair, holds, first-base, round, refine, final-base}
+use Rattle.bpa.specs.Method.{Base, fits, Pair, holds, first-base, round, refine, final-base}
 use Rattle.bpa.specs.Bases.{Ordered-pairs, Full}
-use Rattle.bpa.proofs.Basics.Cases.{by-test, and-left, and-right, and-both}
+use Rattle.bpa.proofs.Basics.Cases.{by-test, and-right, and-both}
 use Rattle.bpa.proofs.Base.FullBase.{full-higher, next-level, level-rises, full-fits}
-use Rattle.bpa.proofs.Base.Pairs.{holds-keep, keep-shorter, keep-all, first-within, first-holds}
+use Rattle.bpa.proofs.Base.Pairs.{holds-keep, keep-shorter, keep-all, first-holds}
 
 -- each held pair fits by the base itself
 abbrev pub Stable : Table → (norms : List ℕ) → Base → Type 0
@@ -78,12 +78,6 @@ module _ (t : Table) (ns : List ℕ) where
       (λ ps l. round-stable ps (omega (arith, round-length ps))) (λ f ps e l. round-stable ps e)
       (λ f ps rs lt i l. i (omega arith))
 
-  refine-drops : (y x f : ℕ) (ps : List Pair) → holds (refine f t ns ps) y x ≡ true → holds ps y x ≡ true
-  refine-drops y x =
-      refine-induction (λ f ps rs. holds rs y x ≡ true → holds ps y x ≡ true) (λ ps h. h) (λ f ps e h. h)
-      (λ f ps rs lt i h.
-      and-left (holds ps y x) (fits t ns (holds ps) y x) (sym (round-holds t ns ps y x) ∙ i h))
-
 module _ (t : Table) (ns : List ℕ) (g : Good t ns) where
   round-full : (n : ℕ) (ps : List Pair) → Full t ns n (holds ps) → Full t ns (next-level t ns n) (holds (round t ns ps))
   round-full n ps full y x hy hx o δ oδ h =
@@ -102,9 +96,6 @@ module _ (t : Table) (ns : List ℕ) (g : Good t ns) where
       (λ f ps rs lt i n full. i (next-level t ns n) (round-full n ps full))
 
 -- THE FINAL BASE
-abbrev pub Within : Table → (norms : List ℕ) → Base → Type 0
-Within t ns b = (y x : ℕ) → y < t .jobs → x < t .jobs → b y x ≡ true → precedes ns x y ≡ true
-
 unfoldable pub final-level : Table → (norms : List ℕ) → ℕ
 final-level t ns = level-after t ns (length (first-base t ns)) 0
 
@@ -112,11 +103,6 @@ module _ (t : Table) (ns : List ℕ) where
   pub final-stable : Stable t ns (final-base t ns)
   unfolding final-base
   final-stable = refine-stable t ns (length (first-base t ns)) (first-base t ns) (omega arith)
-
-  pub final-within : Within t ns (final-base t ns)
-  unfolding final-base
-  final-within y x hy hx h =
-      first-within t ns y x (refine-drops t ns y x (length (first-base t ns)) (first-base t ns) h)
 
   pub final-full : Good t ns → Full t ns (final-level t ns) (final-base t ns)
   unfolding final-base final-level

@@ -21,7 +21,7 @@ all-each : (t : Table) (f : List ℕ) → All-lowest t f → Each (Lowest t) f
 all-each t f no-job = each-none (Lowest t)
 all-each t f (one-more j js l r) = each-cons (Lowest t) j js l (all-each t js r)
 
-each-all : (t : Table) (f : List ℕ) → Each (Lowest t) f → All-lowest t f
+pub each-all : (t : Table) (f : List ℕ) → Each (Lowest t) f → All-lowest t f
 each-all t [] h = no-job
 each-all t (j ∷ js) h = one-more j js (h j (here refl)) (each-all t js (λ i m. h i (there m)))
 

@@ -8,7 +8,7 @@ use Prim.Native.Nat.{ℕ, zero, suc, _<_}
 use native.Mathlib.Nat.{eq-or-lt-of-le}
 use native.Mathlib.Omega.{arith}
 use Rattle.bpa.specs.Method.{Base, precedes, first-of, least-pair}
-use Rattle.bpa.proofs.Basics.Cases.{by-test, and-left, and-right, and-both, never-both}
+use Rattle.bpa.proofs.Basics.Cases.{and-left, and-right, and-both, never-both}
 use Rattle.bpa.proofs.Basics.Order.{precedes-total, precedes-trans}
 
 -- the base pairs a job with one that precedes it
@@ -83,19 +83,3 @@ module _ (ns : List ℕ) (b : Base) (y : ℕ) where
 
   pub least-some : (n x : ℕ) → least-pair ns b y n ≡ some x → Least ns b y n x
   least-some n x e = subst (Answer ns b y n) e (answer n)
-
-  pub unpaired-none : (n : ℕ) → Unpaired ns b y n → least-pair ns b y n ≡ none
-  unpaired-none n u = go (least-pair ns b y n) (answer n)
-    where
-      go : (o : Option ℕ) → Answer ns b y n o → o ≡ none
-      go none a = refl
-      go (some x) a = absurd (u x (a .within) (a .paired))
-
--- the answer depends on the base at the pairs asked about only
-pub least-pair-in-range : (ns : List ℕ) (b b′ : Base) (y n : ℕ) →
-    ((x : ℕ) → x < n → precedes ns x y ≡ true → b y x ≡ b′ y x) → least-pair ns b y n ≡ least-pair ns b′ y n
-unfolding least-pair
-least-pair-in-range ns b b′ y zero h = refl
-least-pair-in-range ns b b′ y (suc n) h =
-    let r : least-pair ns b y n ≡ least-pair ns b′ y n = least-pair-in-range ns b b′ y n (λ x l. h x (omega arith)) in
-    by-test (precedes ns n y) (λ p. rw (p, h n (omega arith) p, r)) (λ p. rw (p, r))

@@ -3,21 +3,19 @@
 use mathlib.Core.Path.{_≡_, sym, subst}
 use mathlib.Core.Bool.{true}
 use mathlib.Core.List.{List}
-use Prim.Native.Nat.{ℕ, _≤_, _<_}
-use native.Mathlib.Omega.{arith}
+use Prim.Native.Nat.{ℕ, _≤_}
 use lib.ListN.{length}
 use Rattle.bpa.specs.Plans.{Table, over}
-use Rattle.bpa.specs.Norms.{sum-of, Good}
+use Rattle.bpa.specs.Norms.{Good}
 use Rattle.bpa.specs.Bisimilar.{Approx}
-use Rattle.bpa.specs.Method.{Base, Rows, expand, prime-rows}
-use Rattle.bpa.proofs.Basics.Plans.{length-norm}
+use Rattle.bpa.specs.Method.{Base, expand, prime-rows}
 use Rattle.bpa.proofs.Rounds.Approximants.{approx-refl, approx-sym, approx-trans}
 use Rattle.bpa.proofs.Rounds.Equivalence.{Equivalent}
 use Rattle.bpa.proofs.Base.ExactBase.{Exact}
-use Rattle.bpa.proofs.Judge.Rows.{expand-in-range, expand-over, expand-norm, expand-match}
+use Rattle.bpa.proofs.Judge.Rows.{expand-over, expand-match}
 use Rattle.bpa.proofs.Basics.EachJob.{Each, each-over, expand-each, expand-longer}
 use Rattle.bpa.proofs.Forms.LeastPair.{Unpaired}
-use Rattle.bpa.proofs.Forms.PrimeRows.{rows-over, rows-norm, rows-equivalent, rows-some}
+use Rattle.bpa.proofs.Forms.PrimeRows.{rows-over, rows-equivalent, rows-some}
 use Rattle.bpa.proofs.Forms.LowestJobs.{Lowest-job, unpaired-lowest, lowest-unpaired, rows-unpaired}
 use Rattle.bpa.proofs.Forms.UniqueForms.{unpaired-unique}
 
@@ -28,18 +26,6 @@ form-of t ns b p = expand (prime-rows t ns b) p
 module _ (t : Table) (ns : List ℕ) (g : Good t ns) (b : Base) where
   pub form-over : (p : List ℕ) → over t p ≡ true → over t (form-of t ns b p) ≡ true
   form-over p o = expand-over t (prime-rows t ns b) (rows-over t ns g b) p o
-
-  pub form-norm : (p : List ℕ) → over t p ≡ true → sum-of ns (form-of t ns b p) ≡ sum-of ns p
-  form-norm p o = expand-norm t ns (prime-rows t ns b) (rows-norm t ns g b) p o
-
-  -- so a form needs no more room than its plan's norm
-  pub form-short : (p : List ℕ) → over t p ≡ true → length (form-of t ns b p) ≤ sum-of ns p
-  form-short p o = omega (arith, length-norm t ns g (form-of t ns b p) (form-over p o), form-norm p o)
-
--- rows that agree with the prime rows in range write the form
-pub form-by-rows : (t : Table) (ns : List ℕ) (b : Base) (e : Rows) → ((j : ℕ) → j < t .jobs → e j ≡ prime-rows t ns b j) →
-    (p : List ℕ) → over t p ≡ true → expand e p ≡ form-of t ns b p
-form-by-rows t ns b e h p o = expand-in-range t e (prime-rows t ns b) h p o
 
 module _ (t : Table) (ns : List ℕ) (g : Good t ns) (b : Base) (ex : Exact t ns b) where
   pub form-equivalent : (p : List ℕ) → over t p ≡ true → Equivalent t p (form-of t ns b p)

@@ -9,7 +9,7 @@ use lib.ListN.{length, getD}
 use Rattle.bpa.specs.Plans.{Table, over}
 use Rattle.bpa.specs.Norms.{sum-of, Good}
 use Rattle.bpa.specs.Method.{Base, candidate, expand, least-pair, prime-row, prime-rows}
-use Rattle.bpa.proofs.Basics.Plans.{over-one, over-cons, norm-positive, length-norm}
+use Rattle.bpa.proofs.Basics.Plans.{over-one, over-cons, norm-positive}
 use Rattle.bpa.proofs.Rounds.Approximants.{approx-refl, approx-trans, approx-cons}
 use Rattle.bpa.proofs.Rounds.Equivalence.{Equivalent}
 use Rattle.bpa.proofs.Base.ExactBase.{Exact}
@@ -24,7 +24,7 @@ option-cases P none h k = h refl
 option-cases P (some x) h k = k x refl
 
 -- a row without a job has norm 0
-some-job : (ns r : List ℕ) → 1 ≤ sum-of ns r → 1 ≤ length r
+pub some-job : (ns r : List ℕ) → 1 ≤ sum-of ns r → 1 ≤ length r
 unfolding sum-of
 some-job ns [] l = l
 some-job ns (j ∷ js) l = omega arith
@@ -155,9 +155,6 @@ module _ (t : Table) (ns : List ℕ) (g : Good t ns) (b : Base) where
   pub rows-equivalent : Exact t ns b → (j : ℕ) → j < t .jobs → Equivalent t (j ∷ []) (prime-rows t ns b j)
   unfolding prime-rows
   rows-equivalent ex j h = row-equivalent ex (getD ns j 0) j h
-
-  pub rows-short : (j : ℕ) → j < t .jobs → length (prime-rows t ns b j) ≤ getD ns j 0
-  rows-short j h = omega (arith, length-norm t ns g (prime-rows t ns b j) (rows-over j h), rows-norm j h)
 
   pub rows-some : (j : ℕ) → j < t .jobs → 1 ≤ length (prime-rows t ns b j)
   rows-some j h = some-job ns (prime-rows t ns b j) (omega (arith, rows-norm j h, norm-positive t ns g j h))

@@ -1,7 +1,7 @@
--- The candidate of a pair is a reduct of its greater job, and how the walk to it goes. Assumes nothing.
+-- The first norm-lowering rule of a job, and the candidate of a pair, which is a reduct of its greater job. Assumes nothing.
 use mathlib.Core.Path.{_≡_, refl, sym, ap, _∙_}
 use mathlib.Core.Bool.{Bool, true, _&&_}
-use mathlib.Core.List.{List, [], _∷_, _++_, append-assoc, List·Memᴰ, List·Memᴰ·head, List·Memᴰ·tail, List·Memᴰ·not-nil, List·Memᴰ·cases-cons}
+use mathlib.Core.List.{List, [], _∷_, _++_, List·Memᴰ, List·Memᴰ·head, List·Memᴰ·tail, List·Memᴰ·not-nil, List·Memᴰ·cases-cons}
 use mathlib.Core.Logic.{⊎-elim}
 use Prim.Native.Nat.{ℕ, zero, suc, _+_, _-_, _≤_, _<_}
 use native.Mathlib.Omega.{arith}
@@ -12,7 +12,7 @@ use Rattle.bpa.specs.Plans.{Rule, Table, over}
 use Rattle.bpa.specs.Norms.{sum-of, Good}
 use Rattle.bpa.specs.Method.{lowering, lower-by, candidate}
 use Rattle.bpa.specs.Bases.{Ordered-pairs}
-use Rattle.bpa.proofs.Basics.Plans.{over-head, over-tail, over-one, over-append, sum-append, sum-one, norm-zero}
+use Rattle.bpa.proofs.Basics.Plans.{over-head, over-tail, over-one, over-append, sum-append, sum-one}
 use Rattle.bpa.proofs.Rounds.Reductions.{Reduces, reduces-over, reduces-norm}
 use Rattle.bpa.proofs.Basics.Cases.{by-test, and-left, and-right, and-both, never-both}
 use Rattle.bpa.proofs.Basics.Order.{precedes-le}
@@ -22,7 +22,7 @@ Closed t ns c = Ordered-pairs t ns (λ y x. over t (c y x) ≡ true)
 
 -- `lowering` finds a rule of the job that lowers its norm by one, if there is one
 module _ (ns : List ℕ) (j : ℕ) where
-  abbrev Lowers : List Rule → (after : List ℕ) → Type 0
+  abbrev pub Lowers : List Rule → (after : List ℕ) → Type 0
   Lowers rs w =
       (a : ℕ) × List·Memᴰ {A = Rule} (record { job = j; move = a; after = w }) rs × (getD ns j 0 ≡ suc (sum-of ns w))
 
@@ -59,7 +59,7 @@ module _ (ns : List ℕ) (j : ℕ) where
       (λ k. let (a′, m′, s′) = lowering-finds rs w (a, k, s) in (a′, List·Memᴰ·tail m′, s′)) (List·Memᴰ·cases-cons m)))
 
 module _ (t : Table) (ns : List ℕ) (g : Good t ns) where
-  lowering-rule : (j : ℕ) → j < t .jobs → Lowers ns j (t .rules) (lowering ns (t .rules) j)
+  pub lowering-rule : (j : ℕ) → j < t .jobs → Lowers ns j (t .rules) (lowering ns (t .rules) j)
   lowering-rule j h = let (a, w, r, e) = g .falls j h in lowering-finds ns j (t .rules) w (a, r, e)
 
   pub lowering-norm : (j : ℕ) → j < t .jobs → getD ns j 0 ≡ suc (sum-of ns (lowering ns (t .rules) j))
@@ -97,25 +97,3 @@ module _ (t : Table) (ns : List ℕ) (g : Good t ns) where
 
   pub candidates-closed : Closed t ns (candidate t ns)
   candidates-closed y x hy hx o = candidate-over y x hy (precedes-le ns x y o)
-
-  -- THE WALK. The front of a plan is gone after as many steps as its norm.
-  lower-by-front : (u v k : ℕ) (r p : List ℕ) → over t r ≡ true → sum-of ns r ≡ u → v ≡ u + k →
-      lower-by ns (t .rules) v (r ++ p) ≡ lower-by ns (t .rules) k p
-  unfolding lower-by sum-of
-  lower-by-front zero v k r p o s e =
-      let i : v ≡ k = omega arith in
-      rw (norm-zero t ns g r o s, i)
-  lower-by-front (suc u) v k [] p o s e = absurd (omega arith)
-  lower-by-front (suc u) zero k (j ∷ js) p o s e = absurd (omega arith)
-  lower-by-front (suc u) (suc v) k (j ∷ js) p o s e =
-      let w = lowering ns (t .rules) j in
-      let (a, r, f) = lowering-rule j (over-head t j js o) in
-      rw (← append-assoc w js p)
-      (lower-by-front u v k (w ++ js) p (over-append t w js (g .closed j a w r) (over-tail t j js o))
-      (omega (arith, sum-append ns w js)) (omega arith))
-
-  -- so a head whose norm is at most the steps left is dropped whole
-  pub lower-by-head : (v j : ℕ) (js : List ℕ) → j < t .jobs → getD ns j 0 ≤ v →
-      lower-by ns (t .rules) v (j ∷ js) ≡ lower-by ns (t .rules) (v - getD ns j 0) js
-  lower-by-head v j js h l =
-      lower-by-front (getD ns j 0) v (v - getD ns j 0) (j ∷ []) js (over-one t j h) (sum-one ns j) (omega arith)

@@ -25,12 +25,6 @@ by-difference equal f g h = f refl
 by-difference ends f g h = g refl
 by-difference (differ x y) f g h = h x y refl
 
--- a common front is passed over
-pub difference-front : (c p q : List ℕ) → first-difference (c ++ p) (c ++ q) ≡ first-difference p q
-unfolding first-difference
-difference-front [] p q = refl
-difference-front (x ∷ c) p q = rw (eq-eqb x x refl) (difference-front c p q)
-
 pub difference-of-equal : (p : List ℕ) → first-difference p p ≡ equal
 unfolding first-difference
 difference-of-equal [] = refl

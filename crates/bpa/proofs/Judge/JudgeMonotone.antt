@@ -94,13 +94,6 @@ unfolding judged
 judged-symmetric t ns b p q = judge-symmetric ns (candidate t ns) b (t .jobs) itself p q
 
 module _ (t : Table) (ns : List ℕ) (g : Good t ns) (b b′ : Base) where
-  pub judged-monotone : Ordered-pairs t ns (λ y x. b y x ≡ true → b′ y x ≡ true) → (p q : List ℕ) →
-      over t p ≡ true → over t q ≡ true → judged t ns b p q ≡ true → judged t ns b′ p q ≡ true
-  unfolding judged
-  judged-monotone m =
-      judge-monotone t ns (candidate t ns) (candidate t ns) (candidates-closed t ns g) (λ y x hy hx o. refl) b b′ m
-      (t .jobs) itself itself (itself-over t) (λ j h. refl)
-
   pub judged-in-range : Ordered-pairs t ns (λ y x. b y x ≡ b′ y x) → (p q : List ℕ) → over t p ≡ true → over t q ≡ true →
       judged t ns b p q ≡ judged t ns b′ p q
   unfolding judged

@@ -1,17 +1,16 @@
--- What the judge calls the same matches for n rounds, if each held pair does; and it has equal norms, whatever the base. Assumes nothing.
-use mathlib.Core.Path.{_≡_, sym, ap, subst, _∙_}
+-- What the judge calls the same matches for n rounds, if each held pair does. Assumes nothing.
+use mathlib.Core.Path.{_≡_, sym, subst}
 use mathlib.Core.Bool.{true}
 use mathlib.Core.List.{List, [], _∷_}
 use Prim.Native.Nat.{ℕ}
 use Rattle.bpa.specs.Plans.{Table, over}
-use Rattle.bpa.specs.Norms.{sum-of, Good}
+use Rattle.bpa.specs.Norms.{Good}
 use Rattle.bpa.specs.Bisimilar.{Approx}
 use Rattle.bpa.specs.Method.{Rows, itself, candidate, expand, Base, judge, judged}
 use Rattle.bpa.specs.Bases.{Ordered-pairs}
 use Rattle.bpa.proofs.Rounds.Approximants.{approx-sym, approx-trans}
-use Rattle.bpa.proofs.Basics.Order.{precedes-le}
-use Rattle.bpa.proofs.Judge.Candidates.{candidate-norm, candidates-closed}
-use Rattle.bpa.proofs.Judge.Rows.{itself-over, itself-norm, itself-match, Rows-over, Rows-norm, Rows-match, expand-norm, expand-match, grow-norm, grow-match}
+use Rattle.bpa.proofs.Judge.Candidates.{candidates-closed}
+use Rattle.bpa.proofs.Judge.Rows.{itself-over, itself-match, Rows-over, Rows-match, expand-match, grow-match}
 use Rattle.bpa.proofs.Judge.Differences.{equal-difference}
 use Rattle.bpa.proofs.Judge.JudgeTurns.{judge-induction}
 
@@ -37,21 +36,3 @@ module _ (t : Table) (ns : List ℕ) (g : Good t ns) where
       judged t ns b p q ≡ true → Approx t n p q
   unfolding judged
   judged-sound n b s p q o o′ h = judge-sound n b s (t .jobs) itself (itself-over t) (itself-match t n) p q o o′ h
-
-  -- for any base
-  pub judge-norms : (b : Base) (f : ℕ) (e : Rows) → Rows-over t e → Rows-norm t ns e → (p q : List ℕ) →
-      over t p ≡ true → over t q ≡ true → judge ns (candidate t ns) b f e p q ≡ true → sum-of ns p ≡ sum-of ns q
-  judge-norms b f e r k p q o o′ h =
-      judge-induction t ns (candidate t ns) (candidates-closed t ns g) b p q o o′ (λ f e. Rows-norm t ns e → sum-of ns p ≡ sum-of ns q)
-      (λ f e r d k.
-      sym (expand-norm t ns e k p o) ∙ ap (sum-of ns) (equal-difference (expand e p) (expand e q) d) ∙
-      expand-norm t ns e k q o′)
-      (λ f e r x y d u l i k.
-      i (grow-norm t (candidate t ns) e r (u .greater) (u .lesser)
-      (candidates-closed t ns g (u .greater) (u .lesser) (u .greater-job) (u .lesser-job) (u .order)) ns k
-      (candidate-norm t ns g (u .greater) (u .lesser) (u .greater-job) (precedes-le ns (u .lesser) (u .greater) (u .order))))) f e r h k
-
-  pub judged-norms : (b : Base) (p q : List ℕ) → over t p ≡ true → over t q ≡ true → judged t ns b p q ≡ true →
-      sum-of ns p ≡ sum-of ns q
-  unfolding judged
-  judged-norms b p q o o′ h = judge-norms b (t .jobs) itself (itself-over t) (itself-norm t ns) p q o o′ h

@@ -1,6 +1,6 @@
 -- Expansions and replacements: how they meet joined plans, stay over the table, keep the norm and keep matching. Assumes nothing.
-use mathlib.Core.Path.{_≡_, refl, sym, ap, _∙_}
-use mathlib.Core.Bool.{Bool, true, false, cond, _||_, true≢false}
+use mathlib.Core.Path.{_≡_, refl, sym, _∙_}
+use mathlib.Core.Bool.{true, cond}
 use mathlib.Core.List.{List, [], _∷_, _++_, append-assoc}
 use Prim.Native.Nat.{ℕ, _+_, _<_}
 use native.Mathlib.Omega.{arith}
@@ -20,11 +20,6 @@ unfolding expand
 expand-append e [] q = refl
 expand-append e (j ∷ p) q = rw (expand-append e p q) (sym (append-assoc (e j) (expand e p) (expand e q)))
 
-pub expand-itself : (p : List ℕ) → expand itself p ≡ p
-unfolding expand itself
-expand-itself [] = refl
-expand-itself (j ∷ p) = ap (λ l. j ∷ l) (expand-itself p)
-
 -- expansions depend on the rows of the plan's own jobs only
 pub expand-in-range : (t : Table) (e e′ : Rows) → ((j : ℕ) → j < t .jobs → e j ≡ e′ j) → (p : List ℕ) →
     over t p ≡ true → expand e p ≡ expand e′ p
@@ -41,21 +36,6 @@ pub replace-expand : (h : ℕ) (w r : List ℕ) → replace h w r ≡ expand (in
 unfolding replace expand instead
 replace-expand h w [] = refl
 replace-expand h w (j ∷ r) = by-test (eqb j h) (λ e. rw (e, replace-expand h w r)) (λ e. rw (e, replace-expand h w r))
-
-pub replace-append : (h : ℕ) (w p q : List ℕ) → replace h w (p ++ q) ≡ replace h w p ++ replace h w q
-replace-append h w p q = simp replace-expand (expand-append (instead h w) p q)
-
--- whether a job stands in a row; a replacement of one that does not changes nothing
-unfoldable pub occurs : (job : ℕ) → (row : List ℕ) → Bool
-occurs h [] = false
-occurs h (j ∷ js) = eqb j h || occurs h js
-
-pub replace-absent : (h : ℕ) (w r : List ℕ) → occurs h r ≡ false → replace h w r ≡ r
-unfolding occurs replace
-replace-absent h w [] a = refl
-replace-absent h w (j ∷ r) a =
-    by-test (eqb j h) (λ e. absurd (true≢false (rw e at a)))
-    (λ e. rw e (ap (λ l. j ∷ l) (replace-absent h w r (rw e at a))))
 
 -- what rows keep: the table, the norm, matching for n rounds
 abbrev pub Rows-over : Table → Rows → Type 0

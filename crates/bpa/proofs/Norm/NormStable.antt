@@ -168,8 +168,3 @@ module _ (t : Table) where
   norms-stable =
       let n = t .jobs in
       rw norms-after (ext-getD 0 (after (suc n)) (after n) (after-length (suc n) ∙ sym (after-length n)) (λ j _. settled j))
-
-  pub rounds-stable : (k : ℕ) → rounds k t (norms t) ≡ norms t
-  unfolding rounds next
-  rounds-stable zero = refl
-  rounds-stable (suc k) = ap (rounds k t) norms-stable ∙ rounds-stable k

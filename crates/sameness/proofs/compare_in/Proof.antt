@@ -73,7 +73,7 @@ returns-2 c =
       answer = gives-done (refusal-is (e .before)) _ (e .if1 .left)
           (toZ-ofZ w32 (c .one-if .result) (record { sfits = c .one-if .ok }) ∙ c .one-if .ensures
           ∙ ap (λ (b : Bool). pos (one-if b)) (rw (s .before .before .before .rules-of .ensures, k .is) at (s .same .ensures)));
-      clears = front-cleared (start (e .before) .args .space .now) (s .same .last .1 .1 .1 .1 .1 .0) 18336 (omega arith)
+      clears = front-cleared (start (e .before) .args .space .now) (s .same .last .1 .1 .1 .1 .1 .0) 24576 (omega arith)
           (s .same .kept .1 .1 .1 .1 .1 .0 ∙ simp length-take (omega (arith, long))) long;
     }
 

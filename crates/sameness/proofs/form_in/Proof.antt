@@ -73,7 +73,7 @@ returns-2 c =
     record {
       written = writes-done (refusal-is (e .before)) (e .if1 .left)
           (rw (toZ-ofZ w32 (f .form .result) (record { sfits = f .form .ok })) (rw (f .before .before .before .before .rules-of .ensures, k .is) at (f .form .ensures)));
-      clears = front-cleared (start (e .before) .args .space .now) (f .form .last .1 .1 .1 .1 .1 .0) 18336 (omega arith)
+      clears = front-cleared (start (e .before) .args .space .now) (f .form .last .1 .1 .1 .1 .1 .0) 24576 (omega arith)
           (f .form .kept .1 .1 .1 .1 .1 .0 ∙ simp length-take (omega (arith, long))) long;
     }
 

@@ -6,7 +6,7 @@ use native.Mathlib.Omega.{arith}
 use borrow.Author.Needs.{needs}
 use Rattle.area.specs.Areas.{put}
 use Rattle.rows.specs.Region.{row}
-use Rattle.rows.proofs.AllRows.{lent, row-part}
+use Rattle.rows.proofs.LentRows.{lent, row-part}
 use Rattle.rows.proofs.WrittenPlans.{Writing, writing-first, row-fits, writing-more, writing-last, job-small, row-short, row-room}
 use lib.ListN.{length}
 use Rattle.rows.proofs.expanding.write_expansion.Statement.{statement}

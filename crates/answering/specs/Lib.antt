@@ -1,0 +1,2 @@
+-- Rules of two jobs that answer each other.
+pub mod Agreeing

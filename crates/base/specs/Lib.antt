@@ -1,2 +1,0 @@
--- What the functions over a base ask and give.
-pub mod Held

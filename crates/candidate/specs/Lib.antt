@@ -1,2 +1,0 @@
--- What the method asks of its tables.
-pub mod Ready

@@ -1,0 +1,13 @@
+-- Laws of the new row of a job: what the code lends, the lowered row, rules by their places, fingerprints, tails, and the jobs tried so far.
+pub mod LentParts
+pub mod JobsOfTable
+pub mod LikelyJobs
+pub mod LoweredRows
+pub mod RulePlaces
+pub mod RowEnds
+pub mod EqualPrints
+pub mod FoundTails
+pub mod JobsTried
+pub mod Turns
+pub mod PairsAsked
+pub mod PassedJobs

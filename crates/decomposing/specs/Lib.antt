@@ -1,0 +1,2 @@
+-- The new row of a job.
+pub mod Candidates

@@ -1,0 +1,2 @@
+-- Decompositions, and how they are refined.
+pub mod Decompositions

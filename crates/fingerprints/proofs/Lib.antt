@@ -1,0 +1,5 @@
+-- Laws of fingerprints.
+pub mod Prints
+pub mod Joins
+pub mod Digits
+pub mod PrintedRows

@@ -1,0 +1,2 @@
+-- Fingerprints of rows.
+pub mod Fingerprints

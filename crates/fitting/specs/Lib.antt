@@ -1,2 +1,0 @@
--- What the functions over the pairs of a table ask and give.
-pub mod Fits

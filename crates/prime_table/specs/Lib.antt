@@ -1,2 +1,0 @@
--- The table of prime rows.
-pub mod Primes

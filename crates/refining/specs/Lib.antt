@@ -1,0 +1,2 @@
+-- Rounds that refine a decomposition.
+pub mod Rounds

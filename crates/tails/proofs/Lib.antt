@@ -1,0 +1,2 @@
+-- Laws of places that cut a row by the norm before them.
+pub mod Tails

@@ -1,0 +1,2 @@
+-- Places that cut a row by the norm before them.
+pub mod Cuts
