@@ -1,7 +1,7 @@
 # make            the archive and planlook
 # make look       planlook on an example
 # make test       every proof, then the tests over the archive; the last line is 'N passed, M failed'
-# make bench      times beside an ordinary Rust program; make callgrind: instructions a call
+# make bench      times beside ordinary Rust programs; make callgrind: instructions a call
 # make soak       random tests for SECONDS= from a printed seed, or from SEED=
 # make install    into PREFIX=, below DESTDIR=
 # make clean
@@ -96,7 +96,7 @@ check-wrapper-%: $(ARCHIVE)
 
 check-rust-look: $(PLANLOOK)
 
-# the plain program of the benchmark beside the second comparer
+# the plain programs of the benchmark beside the second comparer
 check-plain: $(ARCHIVE)
 	@$(CARGO) build -q --release -p bench --bin agree
 	@$(RUST)/agree

@@ -1,10 +1,23 @@
-//! Calls and nothing else, for a tool that counts instructions.
+//! The calls to time, and a program of calls and nothing else, for a tool that counts instructions.
 use crate::inputs::{one, Input};
 use outside::rng::Rng;
 use std::process::ExitCode;
 
 /// The call on the pair at an index.
 pub type Call = fn(&Input, usize, &mut [u8]) -> i32;
+
+/// Compare: the library, the plain program by the base method, the plain program by the rows method.
+pub const COMPARE: [Call; 3] = [
+    |input, i, space| gindrazoma::raw::compare(&input.image, &input.pairs[i].0, &input.pairs[i].1, space),
+    |input, i, space| plain::base::compare(&input.image, &input.pairs[i].0, &input.pairs[i].1, space),
+    |input, i, space| plain::rows::compare(&input.image, &input.pairs[i].0, &input.pairs[i].1, space),
+];
+
+/// The norm of a plan: the library, the plain program.
+pub const NORM: [Call; 2] = [
+    |input, i, _| gindrazoma::raw::plan_norm(&input.image, &input.pairs[i].0),
+    |input, i, _| plain::plan_norm(&input.image, &input.pairs[i].0),
+];
 
 /// `PROGRAM light|full library|plain COUNT`: that many calls of one of the two.
 pub fn run(library: Call, plain: Call) -> ExitCode {

@@ -2,7 +2,7 @@
 use outside::rng::Rng;
 use outside::second::Second;
 use outside::shapes::Made;
-use outside::table::{rule, Plan, Rule};
+use outside::table::{rule, Plan, Rule, Table};
 
 pub struct Input {
     pub name: String,
@@ -91,6 +91,10 @@ pub fn hostile(rng: &mut Rng) -> Vec<Input> {
         ("norms up to 512, 252 rules", Made::of_words(rng, &two[..1], long_powers(), 252)),
         ("long rows, last job differs", Made::of_words(rng, &two, long_rows(), 252)),
         ("chain backwards beside norms up to 512", chain_beside_powers(rng)),
+        ("2 rows apart at their ends, 54 times", Made::of_table(two_rows())),
+        ("108 rows apart at their ends", Made::of_table(many_rows())),
+        ("17 copies of a job with 191 equal rules", Made::of_table(equal_rules())),
+        ("14 copies of a job, a row in 85 writings", Made::of_table(many_writings())),
     ];
     let mut inputs = Vec::new();
     for (name, made) in made {
@@ -102,14 +106,14 @@ pub fn hostile(rng: &mut Rng) -> Vec<Input> {
 }
 
 /// Job k: a; b, then job k-1. Told apart one a round. Filled up with rules that match, before those that do not.
-fn chain(fill: usize) -> outside::table::Table {
+fn chain(fill: usize) -> Table {
     let mut rules: Vec<Rule> = (0..24).map(|k| rule(k, 97, &[])).collect();
     let spare = fill.saturating_sub(47) / 24;
     for i in 0..spare {
         rules.extend((0..24).map(|k| rule(k, 99 + (i / 2) as u8, &[0, 0, 0, 0][..i % 5])));
     }
     rules.extend((1..24).map(|k| rule(k, 98, &[k - 1])));
-    outside::table::Table { jobs: 24, rules }
+    Table { jobs: 24, rules }
 }
 
 /// Two primes of norm 1 with equal moves, apart by what follows.
@@ -156,7 +160,73 @@ fn chain_beside_powers(rng: &mut Rng) -> Option<Made> {
     let mut rules = made.table.rules;
     rules.extend((18..24).map(|k| rule(k, 97, &[])));
     rules.extend((18..23).map(|k| rule(k, 98, &[k + 1])));
-    Made::of_table(outside::table::Table { jobs: 24, rules })
+    Made::of_table(Table { jobs: 24, rules })
+}
+
+/// Powers of the first job: 1, 5, 21, 85, 341, 512.
+fn tower() -> Vec<Rule> {
+    let mut rules = vec![rule(0, 97, &[])];
+    rules.extend((1..5).map(|k| rule(k, 97, &[k - 1; 4])));
+    rules.push(rule(5, 97, &[4, 3, 3]));
+    rules
+}
+
+/// The jobs from one on, of norm 1, each c or d and then the next: told apart one a round, from the last on.
+fn told_apart(first: u8) -> Vec<Rule> {
+    let ends = (first..24).map(|k| rule(k, 99, &[]));
+    ends.chain((first..23).map(|k| rule(k, 100, &[k + 1]))).collect()
+}
+
+/// Two jobs with the same long rows, in reverse order and with another job of norm 512, so that each rule of one is compared
+/// with all those of the other that are not its own. Jobs 0 and 7 are letters; a job from 8 on for each word over them.
+/// Beside them jobs that are told apart, for many rounds.
+fn reversed(words: &[Plan], rows: &[[u8; 4]]) -> Table {
+    let mut rules = tower();
+    rules.extend([rule(6, 97, &[4, 3, 3]), rule(7, 98, &[])]);
+    rules.extend((8..).zip(words).map(|(k, word)| rule(k, if word[0] == 0 { 97 } else { 98 }, &word[1..])));
+    let x = 8 + words.len() as u8;
+    rules.extend([rule(x, 101, &[]), rule(x + 1, 101, &[])]);
+    rules.extend(rows.iter().map(|row| rule(x, 101, row)));
+    rules.extend(rows.iter().rev().map(|row| rule(x + 1, 101, &row.map(|j| if j == 5 { 6 } else { j }))));
+    rules.extend(told_apart(x + 2));
+    Table { jobs: 24, rules }
+}
+
+fn two_rows() -> Table {
+    let words = [vec![0, 7], vec![7, 0]];
+    reversed(&words, &[[[5, 5, 5, 8]; 54], [[5, 5, 5, 9]; 54]].concat())
+}
+
+/// No rule twice, and all rows of equal weight: made of permutations of one word. Two jobs for each word, so that each row
+/// is there in four writings, of which one answers and the others ask.
+fn many_rows() -> Table {
+    let words = [vec![0, 0, 7, 7], vec![0, 7, 0, 7], vec![0, 7, 7, 0]];
+    let rows: Vec<_> = (0..108).map(|n| [5, 8 + n / 36 + n % 2 * 3, 8 + n / 12 % 3 + n / 2 % 2 * 3, 8 + n / 4 % 3]).collect();
+    reversed(&[&words[..], &words].concat(), &rows)
+}
+
+/// A job with many equal rules, and its copies with one such rule each, written otherwise.
+fn equal_rules() -> Table {
+    let mut rules = tower();
+    rules.extend(told_apart(6));
+    rules.extend((7..24).map(|k| rule(k, 101, &[4, 5, 5, 5])));
+    rules.resize(252, rule(6, 101, &[5, 5, 5, 4]));
+    Table { jobs: 24, rules }
+}
+
+/// The same with no rule twice: the powers 341 to 345, and all rows of four of them that are the power 1,372.
+fn many_writings() -> Table {
+    let mut rules = tower();
+    rules.truncate(5);
+    rules.extend((5..9).map(|k| rule(k, 97, &[k - 1])));
+    rules.extend(told_apart(9));
+    let rows = (0..625).map(|n| [4 + n / 125, 4 + n / 25 % 5, 4 + n / 5 % 5, 4 + n % 5].map(|j| j as u8));
+    let rows: Vec<_> = rows.filter(|row| row.iter().sum::<u8>() == 24).collect();
+    for action in [101, 102] {
+        rules.extend((10..24).map(|k| rule(k, action, &[8, 8, 4, 4])));
+        rules.extend(rows.iter().map(|row| rule(9, action, row)));
+    }
+    Table { jobs: 24, rules }
 }
 
 /// Rows of the first prime, and such rows with the second prime at the end.

@@ -1,125 +1,29 @@
 //! The base of pairs, refined by rounds until one drops nothing, and the prime rows that it gives.
-use crate::judge::{Judge, Rows, ROW};
-use crate::norms::{lowering_rules, row_norm};
+use crate::index::Index;
+use crate::judge::Judge;
+use crate::region::{split, Rows, ROW};
 use crate::table::{Table, JOBS, RULES};
 
-const PLAN: usize = 4096;
+pub fn compare(image: &[u8], left: &[u8], right: &[u8], space: &mut [u8]) -> i32 {
+    crate::compare(image, left, right, space, prime_rows)
+}
+
+pub fn prime_form(image: &[u8], plan: &[u8], out: &mut [u8], space: &mut [u8]) -> i32 {
+    crate::prime_form(image, plan, out, space, prime_rows)
+}
+
+fn prime_rows<'a>(table: &Table, norms: &[u16; JOBS], space: &'a mut [u8]) -> Rows<'a> {
+    let mut engine = Engine::new(table, norms, space);
+    engine.first_base();
+    while engine.round() {}
+    engine.prime_rows();
+    engine.forms
+}
+
 const FAILED: usize = RULES * 32;
 const NO_RULE: u8 = u8::MAX;
 
-/// Told of each step of the method.
-pub trait Meter {
-    fn round(&mut self) {}
-    fn pair(&mut self) {}
-    fn judgement(&mut self) {}
-    fn turn(&mut self) {}
-}
-
-impl Meter for () {}
-
-/// Counts of steps.
-#[derive(Default, Clone, Copy, Debug)]
-pub struct Steps {
-    pub rounds: u64,
-    pub pairs: u64,
-    pub judgements: u64,
-    pub turns: u64,
-}
-
-impl Meter for Steps {
-    fn round(&mut self) {
-        self.rounds += 1;
-    }
-    fn pair(&mut self) {
-        self.pairs += 1;
-    }
-    fn judgement(&mut self) {
-        self.judgements += 1;
-    }
-    fn turn(&mut self) {
-        self.turns += 1;
-    }
-}
-
-/// Jobs in order, rules grouped by job, and what is looked up of them.
-struct Index<'a> {
-    table: &'a Table,
-    norms: &'a [u16; JOBS],
-    row_norms: [u16; RULES],
-    lowering: [u8; JOBS],
-    order: [u8; JOBS],
-    rank: [u8; JOBS],
-    grouped: [u8; RULES],
-    starts: [u8; JOBS + 1],
-}
-
-impl<'a> Index<'a> {
-    fn new(table: &'a Table, norms: &'a [u16; JOBS]) -> Index<'a> {
-        let mut index = Index {
-            table,
-            norms,
-            row_norms: [0; RULES],
-            lowering: lowering_rules(table, norms),
-            order: [0; JOBS],
-            rank: [0; JOBS],
-            grouped: [0; RULES],
-            starts: [0; JOBS + 1],
-        };
-        index.order_jobs();
-        index.group_rules();
-        for r in 0..table.count {
-            index.row_norms[r] = table.after(r).iter().map(|&j| norms[j as usize]).sum();
-        }
-        debug_assert!((0..table.count).all(|r| row_norm(norms, table.after(r)) == index.row_norms[r].min(512)));
-        index
-    }
-
-    fn order_jobs(&mut self) {
-        let jobs = self.table.jobs;
-        for j in 0..jobs {
-            self.order[j] = j as u8;
-        }
-        let norms = self.norms;
-        self.order[..jobs].sort_unstable_by_key(|&j| (norms[j as usize], j));
-        for i in 0..jobs {
-            self.rank[self.order[i] as usize] = i as u8;
-        }
-    }
-
-    fn group_rules(&mut self) {
-        let mut at = 0;
-        let mut counts = [0u8; JOBS];
-        for r in 0..self.table.count {
-            counts[self.table.job(r)] += 1;
-        }
-        let mut next = [0u8; JOBS];
-        for j in 0..self.table.jobs {
-            self.starts[j] = at;
-            next[j] = at;
-            at += counts[j];
-        }
-        self.starts[self.table.jobs] = at;
-        for r in 0..self.table.count {
-            let j = self.table.job(r);
-            self.grouped[next[j] as usize] = r as u8;
-            next[j] += 1;
-        }
-    }
-
-    fn rules_of(&self, job: u8) -> &[u8] {
-        &self.grouped[self.starts[job as usize] as usize..self.starts[job as usize + 1] as usize]
-    }
-
-    /// A mark of the moves that a job makes and of how each changes the norm.
-    fn steps(&self, job: u8) -> u64 {
-        let mut mark = 0;
-        for &r in self.rules_of(job) {
-            let change = self.row_norms[r as usize] + 512 - self.norms[job as usize];
-            mark |= 1 << ((u16::from(self.table.action(r as usize)) + 11 * change) % 64);
-        }
-        mark
-    }
-
+impl Index<'_> {
     /// Writes the candidate of a pair at the end of an area: the plan that y reaches by norm-of-x steps, each lowering
     /// the norm by one. Its start.
     fn candidate(&self, y: u8, x: u8, area: &mut [u8]) -> usize {
@@ -151,12 +55,10 @@ struct Pair {
     start: usize,
 }
 
-pub struct Engine<'a> {
-    index: Index<'a>,
+struct Engine<'t, 'a> {
+    index: Index<'t>,
     judge: Judge<'a>,
     forms: Rows<'a>,
-    left: &'a mut [u8],
-    right: &'a mut [u8],
     // a candidate at the end, with room before it for the jobs after a rule
     remainder: &'a mut [u8],
     // a bit for each two rules: once judged apart, apart by every later base
@@ -167,12 +69,10 @@ pub struct Engine<'a> {
     held: [u32; JOBS],
 }
 
-impl<'a> Engine<'a> {
-    pub fn new(table: &'a Table, norms: &'a [u16; JOBS], space: &'a mut [u8]) -> Engine<'a> {
+impl<'t, 'a> Engine<'t, 'a> {
+    fn new(table: &'t Table, norms: &'t [u16; JOBS], space: &'a mut [u8]) -> Engine<'t, 'a> {
         let (judge, space) = space.split_at_mut(Judge::BYTES);
-        let (forms, space) = space.split_at_mut(Rows::BYTES);
-        let (left, space) = space.split_at_mut(PLAN);
-        let (right, space) = space.split_at_mut(PLAN);
+        let (forms, space) = split(space);
         let (remainder, space) = space.split_at_mut(4 + ROW);
         let (failed, space) = space.split_at_mut(FAILED);
         let witness = &mut space[..JOBS * RULES];
@@ -182,8 +82,6 @@ impl<'a> Engine<'a> {
             index: Index::new(table, norms),
             judge: Judge::new(judge),
             forms: Rows::new(forms),
-            left,
-            right,
             remainder,
             failed,
             witness,
@@ -191,20 +89,10 @@ impl<'a> Engine<'a> {
         }
     }
 
-    /// The final base and the prime rows.
-    pub fn run<M: Meter>(&mut self, meter: &mut M) {
-        self.first_base();
-        while self.round(meter) {}
-        self.prime_rows();
-    }
-
     /// Each job with each job that precedes it and has the same mark.
     fn first_base(&mut self) {
         let jobs = self.index.table.jobs;
-        let mut marks = [0; JOBS];
-        for (j, mark) in marks[..jobs].iter_mut().enumerate() {
-            *mark = self.index.steps(j as u8);
-        }
+        let marks = self.index.marks();
         for i in 1..jobs {
             let y = self.index.order[i] as usize;
             for k in 0..i {
@@ -217,8 +105,7 @@ impl<'a> Engine<'a> {
     }
 
     /// Drops each pair that does not fit, at once; whether one was dropped.
-    fn round<M: Meter>(&mut self, meter: &mut M) -> bool {
-        meter.round();
+    fn round(&mut self) -> bool {
         let mut dropped = false;
         for i in 1..self.index.table.jobs {
             let y = self.index.order[i];
@@ -226,7 +113,7 @@ impl<'a> Engine<'a> {
             while bits != 0 {
                 let k = bits.trailing_zeros();
                 bits &= bits - 1;
-                if !self.fits(y, self.index.order[k as usize], meter) {
+                if !self.fits(y, self.index.order[k as usize]) {
                     self.held[y as usize] &= !(1 << k);
                     dropped = true;
                 }
@@ -236,20 +123,19 @@ impl<'a> Engine<'a> {
     }
 
     /// Whether the moves of y and of x followed by the candidate match both ways.
-    fn fits<M: Meter>(&mut self, y: u8, x: u8, meter: &mut M) -> bool {
-        meter.pair();
+    fn fits(&mut self, y: u8, x: u8) -> bool {
         let start = 4 + self.index.candidate(y, x, &mut self.remainder[4..]);
         let pair = Pair { y, x, start };
         let mut answered = [0u64; 4];
         for i in self.index.starts[y as usize]..self.index.starts[y as usize + 1] {
             let r = self.index.grouped[i as usize];
-            let Some(s) = self.find(&pair, r, true, meter) else { return false };
+            let Some(s) = self.find(&pair, r, true) else { return false };
             answered[s as usize / 64] |= 1 << (s % 64);
         }
         for i in self.index.starts[x as usize]..self.index.starts[x as usize + 1] {
             let s = self.index.grouped[i as usize];
             let done = answered[s as usize / 64] >> (s % 64) & 1 == 1;
-            if !done && self.find(&pair, s, false, meter).is_none() {
+            if !done && self.find(&pair, s, false).is_none() {
                 return false;
             }
         }
@@ -257,16 +143,16 @@ impl<'a> Engine<'a> {
     }
 
     /// A rule of the pair's other job that matches the rule: the last witness if it still does, else the first.
-    fn find<M: Meter>(&mut self, pair: &Pair, rule: u8, of_greater: bool, meter: &mut M) -> Option<u8> {
+    fn find(&mut self, pair: &Pair, rule: u8, of_greater: bool) -> Option<u8> {
         let other = if of_greater { pair.x } else { pair.y };
         let at = other as usize * RULES + rule as usize;
         let last = self.witness[at];
-        if last != NO_RULE && self.matches(pair, rule, last, of_greater, meter) {
+        if last != NO_RULE && self.matches(pair, rule, last, of_greater) {
             return Some(last);
         }
         for i in self.index.starts[other as usize]..self.index.starts[other as usize + 1] {
             let s = self.index.grouped[i as usize];
-            if s != last && self.matches(pair, rule, s, of_greater, meter) {
+            if s != last && self.matches(pair, rule, s, of_greater) {
                 self.witness[at] = s;
                 return Some(s);
             }
@@ -275,7 +161,7 @@ impl<'a> Engine<'a> {
     }
 
     /// Equal moves, equal norms, and the remainders judged the same.
-    fn matches<M: Meter>(&mut self, pair: &Pair, rule: u8, other: u8, of_greater: bool, meter: &mut M) -> bool {
+    fn matches(&mut self, pair: &Pair, rule: u8, other: u8, of_greater: bool) -> bool {
         let table = self.index.table;
         if table.action(rule as usize) != table.action(other as usize) {
             return false;
@@ -295,9 +181,8 @@ impl<'a> Engine<'a> {
         for (to, &j) in self.remainder[from..pair.start].iter_mut().zip(row) {
             *to = j;
         }
-        meter.judgement();
         let (index, held) = (&self.index, &self.held);
-        let same = self.judge.judge(table.after(r), &self.remainder[from..], meter, |u, v, area| {
+        let same = self.judge.judge(table.after(r), &self.remainder[from..], |u, v, area| {
             let left_greater = index.rank[u as usize] > index.rank[v as usize];
             let (y, x) = if left_greater { (u, v) } else { (v, u) };
             let is_held = held[y as usize] >> index.rank[x as usize] & 1 == 1;
@@ -324,16 +209,5 @@ impl<'a> Engine<'a> {
             let len = 1 + self.forms.expand(&area[start..], &mut row[1..]);
             self.forms.set(y, &row[..len]);
         }
-    }
-
-    pub fn form(&mut self, plan: &[u8]) -> &[u8] {
-        let len = self.forms.expand(plan, self.left);
-        &self.left[..len]
-    }
-
-    pub fn equal_forms(&mut self, left: &[u8], right: &[u8]) -> bool {
-        let l = self.forms.expand(left, self.left);
-        let r = self.forms.expand(right, self.right);
-        self.left[..l] == self.right[..r]
     }
 }

@@ -1,81 +1,38 @@
 //! The judge of two plans by a base: expansions, the leftmost difference, one replacement a turn.
-use crate::base::Meter;
+use crate::region::{split, Rows, ROW};
 use crate::table::JOBS;
-
-pub const ROW: usize = 512;
-
-/// Rows of jobs that the jobs stand for; at first each for itself.
-pub struct Rows<'a> {
-    bytes: &'a mut [u8],
-    lens: [u16; JOBS],
-}
-
-impl<'a> Rows<'a> {
-    pub const BYTES: usize = ROW * JOBS;
-
-    pub fn new(bytes: &'a mut [u8]) -> Rows<'a> {
-        for j in 0..JOBS {
-            bytes[ROW * j] = j as u8;
-        }
-        Rows { bytes, lens: [1; JOBS] }
-    }
-
-    pub fn of(&self, job: u8) -> &[u8] {
-        let at = ROW * job as usize;
-        &self.bytes[at..at + self.lens[job as usize] as usize]
-    }
-
-    pub fn set(&mut self, job: u8, row: &[u8]) {
-        let at = ROW * job as usize;
-        self.bytes[at..at + row.len()].copy_from_slice(row);
-        self.lens[job as usize] = row.len() as u16;
-    }
-
-    /// Writes the expansion of a plan from the start of an area; its length.
-    pub fn expand(&self, plan: &[u8], area: &mut [u8]) -> usize {
-        let mut at = 0;
-        for &j in plan {
-            let row = self.of(j);
-            for (to, from) in area[at..at + row.len()].iter_mut().zip(row) {
-                *to = *from;
-            }
-            at += row.len();
-        }
-        at
-    }
-
-    fn first_difference(&self, p: &[u8], q: &[u8]) -> Difference {
-        let mut right: &[u8] = &[];
-        let mut at = 0;
-        let mut next = 0;
-        for &j in p {
-            for &x in self.of(j) {
-                if at == right.len() {
-                    if next == q.len() {
-                        return Difference::Ends;
-                    }
-                    right = self.of(q[next]);
-                    next += 1;
-                    at = 0;
-                }
-                if x != right[at] {
-                    return Difference::At(x, right[at]);
-                }
-                at += 1;
-            }
-        }
-        if at == right.len() && next == q.len() {
-            Difference::Equal
-        } else {
-            Difference::Ends
-        }
-    }
-}
 
 enum Difference {
     Equal,
     Ends,
     At(u8, u8),
+}
+
+fn first_difference(rows: &Rows, p: &[u8], q: &[u8]) -> Difference {
+    let mut right: &[u8] = &[];
+    let mut at = 0;
+    let mut next = 0;
+    for &j in p {
+        for &x in rows.of(j) {
+            if at == right.len() {
+                if next == q.len() {
+                    return Difference::Ends;
+                }
+                right = rows.of(q[next]);
+                next += 1;
+                at = 0;
+            }
+            if x != right[at] {
+                return Difference::At(x, right[at]);
+            }
+            at += 1;
+        }
+    }
+    if at == right.len() && next == q.len() {
+        Difference::Equal
+    } else {
+        Difference::Ends
+    }
 }
 
 pub struct Judge<'a> {
@@ -88,10 +45,10 @@ pub struct Judge<'a> {
 }
 
 impl<'a> Judge<'a> {
-    pub const BYTES: usize = Rows::BYTES + 3 * ROW;
+    pub const BYTES: usize = ROW * JOBS + 3 * ROW;
 
     pub fn new(space: &'a mut [u8]) -> Judge<'a> {
-        let (rows, space) = space.split_at_mut(Rows::BYTES);
+        let (rows, space) = split(space);
         let (candidate, space) = space.split_at_mut(ROW);
         let (by, row) = space.split_at_mut(ROW);
         Judge { rows: Rows::new(rows), replaced: [0; JOBS], count: 0, candidate, by, row }
@@ -100,21 +57,14 @@ impl<'a> Judge<'a> {
     /// Whether two plans of equal norm are judged the same. Given two different jobs, `pair` says whether the left is the
     /// greater and writes the candidate of their pair to the end of an area, whose start it gives; or None if the pair is
     /// not held.
-    pub fn judge<M: Meter>(
-        &mut self,
-        p: &[u8],
-        q: &[u8],
-        meter: &mut M,
-        pair: impl Fn(u8, u8, &mut [u8]) -> Option<(bool, usize)>,
-    ) -> bool {
+    pub fn judge(&mut self, p: &[u8], q: &[u8], pair: impl Fn(u8, u8, &mut [u8]) -> Option<(bool, usize)>) -> bool {
         let same = loop {
-            match self.rows.first_difference(p, q) {
+            match first_difference(&self.rows, p, q) {
                 Difference::Equal => break true,
                 Difference::Ends => break false,
                 Difference::At(u, v) => {
                     let Some((left_greater, start)) = pair(u, v, self.candidate) else { break false };
                     let (y, x) = if left_greater { (u, v) } else { (v, u) };
-                    meter.turn();
                     self.replace(y, x, start);
                 }
             }

@@ -1,20 +1,24 @@
-//! The calls of gindrazoma as an ordinary Rust program by the same method: the baseline of the benchmark.
-//! Answers, refusals and areas are those of include/gindrazoma.h.
+//! The calls of gindrazoma as an ordinary Rust program: the baseline of the benchmark. Compare and prime form are there by
+//! two methods. Answers, refusals and areas are those of include/gindrazoma.h.
 #![no_std]
 #![forbid(unsafe_code)]
 
-mod base;
+pub mod base;
 mod image;
+mod index;
 mod judge;
 mod norms;
+mod region;
+pub mod rows;
+mod steps;
 mod table;
 
-pub use base::{Meter, Steps};
+pub use steps::{Meter, Steps};
 
-use base::Engine;
 use image::{fill_block, layout_of_list, load};
 use norms::{job_norms, plan_norm_of, plan_refusal, shortest, table_refusal};
-use table::{Table, RULE};
+use region::Rows;
+use table::{Table, JOBS, RULE};
 
 /// The length of the workspace of a call that takes one.
 pub const WORKSPACE: usize = 65536;
@@ -78,34 +82,30 @@ pub fn nth_move(image: &[u8], plan: &[u8], index: u32, out: &mut [u8]) -> i32 {
     })
 }
 
-pub fn compare(image: &[u8], left: &[u8], right: &[u8], space: &mut [u8]) -> i32 {
-    compare_counted(image, left, right, space, &mut ())
-}
-
-/// The same, with the steps of the method told to a meter.
-pub fn compare_counted<M: Meter>(image: &[u8], left: &[u8], right: &[u8], space: &mut [u8], meter: &mut M) -> i32 {
+/// Whether two plans are the same by the prime rows that a method finds.
+fn compare<F>(image: &[u8], left: &[u8], right: &[u8], space: &mut [u8], prime_rows: F) -> i32
+where
+    F: for<'a> FnOnce(&Table, &[u16; JOBS], &'a mut [u8]) -> Rows<'a>,
+{
     in_workspace(space, |space| {
         let (table, norms) = checked(image)?;
         plan_refusal(&norms, table.jobs, &[left, right])?;
-        if plan_norm_of(&norms, left) != plan_norm_of(&norms, right) {
-            return Ok(0);
-        }
-        let mut engine = Engine::new(&table, &norms, space);
-        engine.run(meter);
-        Ok(engine.equal_forms(left, right) as i32)
+        let rows = prime_rows(&table, &norms, space);
+        Ok(rows.equal(left, right, &[], &mut ()) as i32)
     })
 }
 
-pub fn prime_form(image: &[u8], plan: &[u8], out: &mut [u8], space: &mut [u8]) -> i32 {
+/// The prime form of a plan by the prime rows that a method finds.
+fn prime_form<F>(image: &[u8], plan: &[u8], out: &mut [u8], space: &mut [u8], prime_rows: F) -> i32
+where
+    F: for<'a> FnOnce(&Table, &[u16; JOBS], &'a mut [u8]) -> Rows<'a>,
+{
     in_workspace(space, |space| {
         let (table, norms) = checked(image)?;
         plan_refusal(&norms, table.jobs, &[plan])?;
-        let mut engine = Engine::new(&table, &norms, space);
-        engine.run(&mut ());
-        let form = engine.form(plan);
-        let out = output(out, form.len())?;
-        out.copy_from_slice(form);
-        Ok(out.len() as i32)
+        let rows = prime_rows(&table, &norms, space);
+        let out = output(out, rows.expanded_len(plan))?;
+        Ok(rows.expand(plan, out) as i32)
     })
 }
 
@@ -127,7 +127,7 @@ fn in_workspace(space: &mut [u8], body: impl FnOnce(&mut [u8]) -> Answer<i32>) -
 }
 
 /// The table of an accepted image, with the norms of its jobs.
-fn checked(image: &[u8]) -> Answer<(Table, [u16; 24])> {
+fn checked(image: &[u8]) -> Answer<(Table, [u16; JOBS])> {
     let table = load(image)?;
     let norms = job_norms(&table);
     table_refusal(&norms, table.jobs)?;

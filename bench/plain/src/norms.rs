@@ -1,14 +1,14 @@
 //! Norms of jobs and plans, refusals 6 to 9, and shortest runs.
-use crate::table::{Table, JOBS};
+use crate::table::{Table, JOBS, RULES};
 use crate::Answer;
 
 /// A job that is not known to finish.
 pub const NONE: u16 = u16::MAX;
 const JOB_MOST: u16 = 512;
-const PLAN_MOST: usize = 4096;
+pub const PLAN_MOST: usize = 4096;
 
 /// The norm of the jobs after a rule, capped above the most that a job may have.
-pub fn row_norm(norms: &[u16; JOBS], row: &[u8]) -> u16 {
+fn row_norm(norms: &[u16; JOBS], row: &[u8]) -> u16 {
     let mut sum = 0;
     for &j in row {
         let n = norms[j as usize];
@@ -72,12 +72,21 @@ pub fn plan_norm_of(norms: &[u16; JOBS], plan: &[u8]) -> usize {
     sum
 }
 
+/// The norm of the jobs after each rule.
+pub fn row_norms(table: &Table, norms: &[u16; JOBS]) -> [u16; RULES] {
+    let mut sums = [0; RULES];
+    for (r, sum) in sums[..table.count].iter_mut().enumerate() {
+        *sum = table.after(r).iter().map(|&j| norms[j as usize]).sum();
+    }
+    sums
+}
+
 /// For each job the first rule that lowers its norm by one.
-pub fn lowering_rules(table: &Table, norms: &[u16; JOBS]) -> [u8; JOBS] {
+pub fn lowering_rules(table: &Table, norms: &[u16; JOBS], row_norms: &[u16; RULES]) -> [u8; JOBS] {
     let mut lowering = [u8::MAX; JOBS];
-    for r in 0..table.count {
+    for r in (0..table.count).rev() {
         let j = table.job(r);
-        if lowering[j] == u8::MAX && row_norm(norms, table.after(r)) + 1 == norms[j] {
+        if row_norms[r] + 1 == norms[j] {
             lowering[j] = r as u8;
         }
     }
@@ -86,7 +95,7 @@ pub fn lowering_rules(table: &Table, norms: &[u16; JOBS]) -> [u8; JOBS] {
 
 /// Writes the moves of a shortest run; the output is as long as the plan's norm.
 pub fn shortest(table: &Table, norms: &[u16; JOBS], plan: &[u8], out: &mut [u8]) {
-    let lowering = lowering_rules(table, norms);
+    let lowering = lowering_rules(table, norms, &row_norms(table, norms));
     let mut stack = [0; JOB_MOST as usize + 4];
     let mut at = 0;
     for &first in plan {

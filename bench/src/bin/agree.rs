@@ -1,10 +1,16 @@
-//! The plain program beside the second comparer: what the benchmark measures against answers rightly.
+//! The plain programs beside the second comparer: what the benchmark measures against answers rightly.
 use outside::harness::{Outcome, Suite};
 use outside::rng::Rng;
 use outside::second::Second;
 use outside::shapes::{Made, Shape, SHAPES};
 use outside::{ensure, ensure_eq};
 use std::process::ExitCode;
+
+type Compare = fn(&[u8], &[u8], &[u8], &mut [u8]) -> i32;
+type Form = fn(&[u8], &[u8], &mut [u8], &mut [u8]) -> i32;
+
+const METHODS: [(&str, Compare, Form); 2] =
+    [("base", plain::base::compare, plain::base::prime_form), ("rows", plain::rows::compare, plain::rows::prime_form)];
 
 fn main() -> ExitCode {
     let mut suite = Suite::new();
@@ -23,11 +29,14 @@ fn agrees(rng: &mut Rng, shape: Shape) -> Outcome {
     for _ in 0..6 {
         let p = made.plan(rng, 600);
         let q = if rng.once_in(2) { made.rewritten(rng, &p) } else { made.perturbed(rng, &p) };
-        let same = i32::from(second.same(&p, &q));
-        ensure_eq!(plain::compare(&image, &p, &q, &mut space), same, "{p:?} and {q:?} over {:?}", made.table);
-        let mut out = [0; 4096];
-        let n = plain::prime_form(&image, &p, &mut out, &mut space);
-        ensure!(n >= 0 && out[..n as usize] == second.form(&p), "the form of {p:?} over {:?}", made.table);
+        let (same, form) = (i32::from(second.same(&p, &q)), second.form(&p));
+        for (name, compare, prime_form) in METHODS {
+            ensure_eq!(compare(&image, &p, &q, &mut space), same, "{name}: {p:?} and {q:?} over {:?}", made.table);
+            let mut out = [0; 4096];
+            let n = prime_form(&image, &p, &mut out, &mut space);
+            ensure!(n >= 0 && out[..n as usize] == form, "{name}: the form of {p:?} over {:?}", made.table);
+            ensure!(out[n as usize..].iter().all(|&b| b == 0), "{name}: the output behind the form of {p:?}");
+        }
         ensure_eq!(plain::plan_norm(&image, &p), made.norm(&p) as i32, "the norm of {p:?}");
     }
     Ok(())

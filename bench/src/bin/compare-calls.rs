@@ -1,7 +1,6 @@
-//! Calls of compare.
+//! Calls of compare: the library's, and those of the plain program by the same method.
+use bench::calls::{run, COMPARE};
+
 fn main() -> std::process::ExitCode {
-    bench::calls::run(
-        |input, i, space| gindrazoma::raw::compare(&input.image, &input.pairs[i].0, &input.pairs[i].1, space),
-        |input, i, space| plain::compare(&input.image, &input.pairs[i].0, &input.pairs[i].1, space),
-    )
+    run(COMPARE[0], COMPARE[2])
 }
