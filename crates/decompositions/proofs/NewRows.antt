@@ -12,7 +12,7 @@ use lib.ListN.{length, getD}
 use Rattle.bpa.specs.Plans.{Table, over}
 use Rattle.bpa.specs.Norms.{sum-of, Good}
 use Rattle.bpa.specs.Method.{Rows, expand, precedes, lowering}
-use Rattle.bpa.proofs.Basics.Plans.{over-cons, over-none, over-one, over-append, over-right, sum-append, sum-one, norm-positive, length-norm}
+use Rattle.bpa.proofs.Basics.Plans.{over-cons, over-none, over-one, over-append, over-right, sum-append, sum-one, norm-positive}
 use Rattle.bpa.proofs.Basics.Order.{less-precedes}
 use Rattle.bpa.proofs.Basics.EachJob.{Each, each-over, each-norm, expand-agree, expand-each}
 use Rattle.bpa.proofs.Judge.Rows.{expand-append}
@@ -57,9 +57,6 @@ module _ (t : Table) (ns : List ℕ) (d : Rows) where
 
   pub expanded-primes : (p : List ℕ) → Each (Decomposed t ns d) p → Each (Alone d) (expand d p)
   expanded-primes p h = expand-each d (Alone d) p (λ j m. h j m .primes)
-
-  pub decomposed-short : Good t ns → (j : ℕ) → Decomposed t ns d j → length (d j) ≤ getD ns j 0
-  decomposed-short g j h = omega (arith, length-norm t ns g (d j) (h .inside), h .norm)
 
   pub decomposed-some : Good t ns → (j : ℕ) → j < t .jobs → Decomposed t ns d j → 1 ≤ length (d j)
   decomposed-some g j l h = some-job ns (d j) (omega (arith, norm-positive t ns g j l, h .norm))

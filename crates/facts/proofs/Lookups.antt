@@ -60,9 +60,6 @@ module _ (rs sums next facts : List ℕ) (t : Tables rs sums next facts) where
   pub row-norm : (i : ℕ) → i < rule-count rs → getD sums i 0 ≡ sum-of (norms-in facts) (rule-at rs i .after)
   row-norm i h = t .row-norms .at i h .is
 
-  pub row-norm-small : (i : ℕ) → i < rule-count rs → getD sums i 0 ≤ 2048
-  row-norm-small i h = t .row-norms .at i h .small
-
   -- THE FIRST RULE of a job's chain
   pub first-place : (j : ℕ) → j < jobs-in facts → getD facts (48 + j) 0 ≡ getD (t .first) j 0
   first-place j h = t .gathered .first-rule j (omega (arith, jobs-few))

@@ -1,6 +1,5 @@
 // Fingerprints of rows, as Karp and Rabin's: unequal ones show that two long rows are unequal, before they are looked at place by place.
 use area::wide;
-ghost use mathlib.Core.Path.{_≡_};
 ghost use Prim.Native.Nat.{_<_};
 ghost use Rattle.rows.specs.Region.{row, Within};
 ghost use Rattle.fingerprints.specs.Fingerprints.{modulus, IsJoined, IsPrint, Printed, Printable, PlanPrint};
