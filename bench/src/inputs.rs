@@ -93,8 +93,9 @@ pub fn hostile(rng: &mut Rng) -> Vec<Input> {
         ("chain backwards beside norms up to 512", chain_beside_powers(rng)),
         ("2 rows apart at their ends, 54 times", Made::of_table(two_rows())),
         ("108 rows apart at their ends", Made::of_table(many_rows())),
-        ("17 copies of a job with 191 equal rules", Made::of_table(equal_rules())),
+        ("17 copies of a job with 194 equal rules", Made::of_table(equal_rules())),
         ("14 copies of a job, a row in 85 writings", Made::of_table(many_writings())),
+        ("chain, 2 jobs with 101 equal rules", Made::of_table(chain_of_equal_rules())),
     ];
     let mut inputs = Vec::new();
     for (name, made) in made {
@@ -113,6 +114,18 @@ fn chain(fill: usize) -> Table {
         rules.extend((0..24).map(|k| rule(k, 99 + (i / 2) as u8, &[0, 0, 0, 0][..i % 5])));
     }
     rules.extend((1..24).map(|k| rule(k, 98, &[k - 1])));
+    Table { jobs: 24, rules }
+}
+
+/// The same with two bisimilar jobs of many equal rules, each rule of one answered by the last of the other; what they leave is told
+/// apart anew in each round.
+fn chain_of_equal_rules() -> Table {
+    let mut rules = chain(0).rules;
+    rules.retain(|r| r.job != 2 && r.job != 23 || r.action == 97);
+    for (job, often, once) in [(2, 20, 1), (23, 1, 20)] {
+        rules.extend(vec![rule(job, 98, &[often]); 101]);
+        rules.push(rule(job, 98, &[once]));
+    }
     Table { jobs: 24, rules }
 }
 
