@@ -54,6 +54,7 @@ module _ (rs sums next prints old new area parts : List ℕ) (pair : Pair) (p : 
     some = p .some;
     starts = p .starts;
     inside = p .inside;
+    alike = p .alike;
     first = p .first;
     chained = p .chained;
     mine-job = p .mine-job;

@@ -1,6 +1,7 @@
 -- Laws of rules that agree, and of jobs whose rules answer each other.
 pub mod Agreement
 pub mod RuleSearch
+pub mod EqualRules
 pub mod RowsAsked
 pub mod KnownRules
 pub mod TurnedPair

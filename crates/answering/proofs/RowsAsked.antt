@@ -75,6 +75,7 @@ module _ (rs sums next prints old new area parts : List ℕ) (forward : Bool) (m
     pub rule-asking : Asking forward f rs sums next prints gap value power rest other tries hint r
     rule-asking = record {
       inside = m .inside;
+      alike = p .alike;
       first = p .first;
       chained = p .chained;
       other-job = p .other-job;

@@ -60,6 +60,7 @@ pairing-turned rs sums next prints old new area parts y x asks tries norm gap va
   some = p .some;
   starts = p .starts;
   inside = p .inside;
+  alike = p .alike;
   first = p .first;
   chained = p .chained;
   mine-job = p .other-job;

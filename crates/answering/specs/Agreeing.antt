@@ -66,9 +66,14 @@ pub record Comparing (rs prints lens region : List ℕ) (gap value power : ℕ) 
   pub value-small : value < modulus
   pub power-small : power < modulus
 
+-- equal rules have equal norms of their rows
+abbrev pub Sums-alike : (rules sums : List ℕ) → Type 0
+Sums-alike rs sums = (i k : ℕ) → i < k → k < rule-count rs → rule-at rs i ≡ rule-at rs k → getD sums i 0 ≡ getD sums k 0
+
 -- a rule that asks, and the chain of the rules that may answer it
 pub record Asking (forward : Bool) (e : Rows) (rs sums next prints : List ℕ) (gap value power : ℕ) (rest : List ℕ) (other start hint r : ℕ) : Type 0 where
   pub inside : r < rule-count rs
+  pub alike : Sums-alike rs sums
   pub first : List ℕ
   pub chained : Chained rs first next
   pub other-job : other < 24
@@ -122,6 +127,7 @@ pub record Pairing (rs sums next prints old new area parts : List ℕ) (forward 
   pub some : 1 ≤ length parts
   pub starts : from ≤ to
   pub inside : to ≤ 12288
+  pub alike : Sums-alike rs sums
   pub first : List ℕ
   pub chained : Chained rs first next
   pub mine-job : mine < 24

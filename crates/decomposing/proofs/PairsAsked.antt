@@ -22,7 +22,7 @@ use Rattle.facts.proofs.Lookups.{first-place}
 use Rattle.answering.specs.Agreeing.{Pairing, OldPair, RulesMatch}
 use Rattle.decomposing.specs.Candidates.{Likely, CanPair, PairOf}
 use Rattle.decomposing.proofs.JobsOfTable.{job-by, job-below, over-below}
-use Rattle.decomposing.proofs.RulePlaces.{match-fits, fits-match}
+use Rattle.decomposing.proofs.RulePlaces.{sums-alike, match-fits, fits-match}
 use Rattle.decomposing.proofs.RowEnds.{no-longer, behind-is}
 use Rattle.decomposing.proofs.EqualPrints.{prints-small, rules-same-print, jobs-same-print}
 use Rattle.decomposing.proofs.FoundTails.{FoundTail}
@@ -96,6 +96,7 @@ module _ {rs facts sums next prints old new area : List ℕ} {place y : ℕ} {lo
       some = omega arith;
       starts = p .ordered;
       inside = omega (arith, p .to-is, y-small u, u .asked .old-within .short y (y-job u));
+      alike = sums-alike rs ns sums (u .asked .tables .row-norms);
       first = u .asked .tables .first;
       chained = u .asked .tables .chained;
       mine-job = y-small u;

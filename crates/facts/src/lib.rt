@@ -5,6 +5,7 @@ use order::order;
 use prepare::chain_rules;
 use prepare::lowering_rules;
 use prepare::mark_steps;
+use repeated::repeated_rules;
 ghost use mathlib.Core.Path.{_≡_};
 ghost use Prim.Native.Nat.{_+_, _<_};
 ghost use lib.ListN.{length, getD};
@@ -91,7 +92,7 @@ fn gather(
     out
 }
 
-// All that is looked up about the jobs; and after each rule the next of its job.
+// All that is looked up about the jobs; and after each rule the next of its job that is not written twice.
 pub fn facts_of(
     jobs: usize,
     rules: &[u8],
@@ -106,7 +107,8 @@ pub fn facts_of(
     ensures { λ r. ⌜ FactsOf jobs (now (rules .entry)) (now (norms .entry)) (now (sums .entry)) (now (next .exit)) r ⌝ }
 {
     let low = lowering_rules(jobs, rules, norms, sums);
-    let first = chain_rules(jobs, rules, next);
+    let repeated = repeated_rules(rules);
+    let first = chain_rules(jobs, rules, &repeated, next);
     let marks = mark_steps(jobs, rules, norms, sums);
     let ord = order(jobs, norms);
     gather(jobs, norms, &marks, &first, &low, &ord)

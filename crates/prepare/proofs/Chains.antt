@@ -1,57 +1,45 @@
--- Walking along the chain of a job: its positions, and that no rule of the job lies between them. Assumes nothing.
-use mathlib.Core.Path.{_≡_, sym, ap, _∙_}
+-- Walking along the chain of a job: its positions, and that each rule of the job between them is written twice. Assumes nothing.
+use mathlib.Core.Path.{_≡_, ap, _∙_, subst}
 use mathlib.Core.List.{List}
-use Prim.Native.Nat.{ℕ, suc, _+_, _-_, _≤_, _<_}
-use native.Mathlib.Nat.{zero-add}
+use Prim.Native.Nat.{ℕ, zero, suc, _<_}
 use native.Mathlib.Omega.{arith}
-use lib.ListN.{getD, drop}
-use lib.Seq.{getD-drop}
-use Rattle.bpa.proofs.Basics.Cases.{never-both}
+use lib.ListN.{getD}
+use Rattle.bpa.specs.Plans.{Rule}
 use Rattle.rules.specs.Places.{rule-at, rule-count}
-use Rattle.prepare.specs.Prepared.{all-rules, seek, of-job, Chained, OnChain}
-use Rattle.prepare.proofs.FirstRule.{seek-within, seek-passes, seek-before, all-at}
-use Rattle.prepare.proofs.FirstRuleArray.{own-job, job-own}
+use Rattle.repeated.specs.Repeated.{Repeated}
+use Rattle.prepare.specs.Prepared.{NextOf, Chained, OnChain}
 
-module _ (rs : List ℕ) (j : ℕ) where
-  -- a search from a position ends on the chain
-  lands : (i k : ℕ) → i ≤ rule-count rs → k ≡ i + seek (of-job j) (drop i (all-rules rs)) → OnChain rs j k
-  lands i k h e = record {
-    within = omega (arith, seek-within (of-job j) rs i h);
-    own = λ m. own-job j (rule-at rs k) (seek-passes (of-job j) rs i k e m);
-  }
+-- the job of a rule that is written twice is that of the earlier one
+pub repeated-job : (rs : List ℕ) (j i : ℕ) (r : Repeated rs i) → rule-at rs i .job ≡ j → rule-at rs (r .earlier) .job ≡ j
+repeated-job rs j i r own = ap (λ (u : Rule). u .job) (r .same) ∙ own
 
-  -- and passes no rule of the job
-  passes : (i k m : ℕ) → k ≡ i + seek (of-job j) (drop i (all-rules rs)) → i ≤ m → m < k → k ≤ rule-count rs → rule-at rs m .job ≡ j → ⊥
-  passes i k m e h l b own =
-      let d = rule-at rs m in
-      let at : getD (drop i (all-rules rs)) (m - i) d ≡ rule-at rs m =
-      getD-drop i (all-rules rs) (m - i) d ∙ ap (λ (n : ℕ). getD (all-rules rs) n d) back ∙ all-at rs m d (omega arith) in
-      never-both (of-job j (rule-at rs m)) (job-own j (rule-at rs m) own)
-      (sym (ap (of-job j) at) ∙ seek-before (of-job j) (drop i (all-rules rs)) (m - i) d (omega arith))
-    where
-      back : i + (m - i) ≡ m
-      back = omega arith
+lands : (rs : List ℕ) (j i k : ℕ) → NextOf rs j i k → OnChain rs j k
+lands rs j i k n = record { within = n .within; own = n .own }
 
 module _ (rs first next : List ℕ) (c : Chained rs first next) (j : ℕ) where
-  start-at : j < 24 → getD first j 0 ≡ 0 + seek (of-job j) (drop 0 (all-rules rs))
-  start-at h = c .starts j h ∙ sym (zero-add _)
+  module _ (h : j < 24) where
+    pub chain-start : OnChain rs j (getD first j 0)
+    chain-start = lands rs j 0 (getD first j 0) (c .starts j h)
 
-  pub chain-start : j < 24 → OnChain rs j (getD first j 0)
-  chain-start h = lands rs j 0 (getD first j 0) (omega arith) (start-at h)
+    -- no rule of the job stands before its first: of two equal ones the earlier would
+    below-start : (n m : ℕ) → m < n → m < getD first j 0 → rule-at rs m .job ≡ j → ⊥
+    below-start zero m l b own = omega arith
+    below-start (suc n) m l b own =
+        let r = c .starts j h .between m (omega arith) b own in
+        below-start n (r .earlier) (omega (arith, r .before)) (omega (arith, r .before)) (repeated-job rs j m r own)
 
-  pub start-gap : j < 24 → (m : ℕ) → m < getD first j 0 → rule-at rs m .job ≡ j → ⊥
-  start-gap h m b = passes rs j 0 (getD first j 0) m (start-at h) (omega arith) b (chain-start h .within)
+    pub start-gap : (m : ℕ) → m < getD first j 0 → rule-at rs m .job ≡ j → ⊥
+    start-gap m b own = below-start (suc m) m (omega arith) b own
 
   module _ (i : ℕ) (h : i < rule-count rs) (on : OnChain rs j i) where
-    next-at : getD next i 0 ≡ suc i + seek (of-job j) (drop (suc i) (all-rules rs))
-    next-at =
-        c .goes-on i h ∙ ap (λ (k : ℕ). suc i + seek (of-job k) (drop (suc i) (all-rules rs))) (on .own h)
+    next-of : NextOf rs j (suc i) (getD next i 0)
+    next-of = subst (λ (k : ℕ). NextOf rs k (suc i) (getD next i 0)) (on .own h) (c .goes-on i h)
 
     pub chain-next : OnChain rs j (getD next i 0)
-    chain-next = lands rs j (suc i) (getD next i 0) (omega arith) next-at
+    chain-next = lands rs j (suc i) (getD next i 0) next-of
 
-    pub chain-gap : (m : ℕ) → i < m → m < getD next i 0 → rule-at rs m .job ≡ j → ⊥
-    chain-gap m l b = passes rs j (suc i) (getD next i 0) m next-at l b (chain-next .within)
+    pub chain-gap : (m : ℕ) → i < m → m < getD next i 0 → rule-at rs m .job ≡ j → Repeated rs m
+    chain-gap m l b own = next-of .between m l b own
 
     pub chain-rises : i < getD next i 0
-    chain-rises = omega (arith, next-at)
+    chain-rises = omega (arith, next-of .rises)

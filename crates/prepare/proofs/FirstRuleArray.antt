@@ -2,16 +2,13 @@
 use mathlib.Core.Path.{_≡_, sym, ap, _∙_, subst}
 use mathlib.Core.Bool.{Bool, true, false, true≢false}
 use mathlib.Core.List.{List}
-use mathlib.Core.Logic.{_⊎_, inl, inr, ⊎-elim}
-use Prim.Native.Nat.{ℕ, suc, _+_, _≤_, _<_}
+use Prim.Native.Nat.{ℕ, suc, _+_, _<_}
 use native.Mathlib.Omega.{arith}
-use lib.Dec.{eqb, ltb}
 use lib.ListN.{length, getD, drop, set, replicate, getD-replicate}
 use lib.Seq.{getD-set-same, getD-set-other}
 use borrow.Author.Count.{below-more}
-use borrow.Author.Tests.{eqb-true, eqb-false, eq-eqb, ltb-true, ltb-false}
+use borrow.Author.Tests.{eqb-true, eq-eqb}
 use Rattle.bpa.specs.Plans.{Rule}
-use Rattle.bpa.proofs.Basics.Cases.{by-test}
 use Rattle.rules.specs.Places.{rule-at, rule-count}
 use Rattle.prepare.specs.Prepared.{all-rules, seek, of-job}
 use Rattle.prepare.proofs.FirstRule.{seek-step, seek-end}
@@ -54,24 +51,3 @@ own-job k r e = eqb-true (r .job) k e
 pub job-own : (k : ℕ) (r : Rule) → r .job ≡ k → of-job k r ≡ true
 unfolding of-job
 job-own k r e = eq-eqb (r .job) k e
-
--- CHAINS. From a position on, the place of each rule holds the next rule of its job.
-abbrev pub Linked : (rules places : List ℕ) → (i : ℕ) → Type 0
-Linked rs a i =
-    (k : ℕ) → i ≤ k → k < rule-count rs → getD a k 0 ≡ suc k + seek (of-job (rule-at rs k .job)) (drop (suc k) (all-rules rs))
-
-pub link : (rs a : List ℕ) (i j v : ℕ) → i < length a → j ≡ rule-at rs i .job →
-    v ≡ suc i + seek (of-job j) (drop (suc i) (all-rules rs)) → Linked rs a (suc i) → Linked rs (set a i v) i
-link rs a i j v l e w h k m b =
-    by-test (eqb k i)
-    (λ q.
-    subst (λ (n : ℕ). getD (set a i v) n 0 ≡ suc n + seek (of-job (rule-at rs n .job)) (drop (suc n) (all-rules rs)))
-    (sym (eqb-true k i q))
-    (getD-set-same a i v 0 l ∙ w ∙ ap (λ (n : ℕ). suc i + seek (of-job n) (drop (suc i) (all-rules rs))) e))
-    (λ q.
-    let d : k ≡ i → ⊥ = eqb-false k i q in
-    let above : suc i ≤ k = ⊎-elim (λ (u : suc i ≤ k). u) (λ (u : k ≡ i). absurd (d u)) (apart i k m) in
-    getD-set-other a i k v 0 d ∙ h k above b)
-  where
-    apart : (i k : ℕ) → i ≤ k → (suc i ≤ k) ⊎ (k ≡ i)
-    apart i k m = by-test (ltb i k) (λ q. inl (ltb-true i k q)) (λ q. inr (omega (arith, ltb-false i k q)))

@@ -3,5 +3,6 @@ pub mod FirstRule
 pub mod FirstRuleArray
 pub mod LoweringRules
 pub mod Chains
+pub mod ChainsMade
 pub mod Marks
 pub mod PassedRules

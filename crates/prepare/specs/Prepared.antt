@@ -11,6 +11,7 @@ use Rattle.bpa.specs.Norms.{sum-of, Good}
 use Rattle.bpa.specs.Method.{lowering}
 use Rattle.rules.specs.Places.{rule-at, rule-count, rules-in, table-of}
 use Rattle.rules.specs.Lists.{GoodList}
+use Rattle.repeated.specs.Repeated.{Repeated}
 
 -- a list of rules with the norms of its jobs, none above 512
 pub record Normed (n : ℕ) (rs ns : List ℕ) : Type 0 where
@@ -53,11 +54,17 @@ pub record Lowered (n : ℕ) (rs ns low : List ℕ) : Type 0 where
   pub inside : (j : ℕ) → j < n → getD low j 0 < rule-count rs
   pub after : (j : ℕ) → j < n → rule-at rs (getD low j 0) .after ≡ lowering ns (table-of n rs .rules) j
 
--- CHAINS: the rules of a job from its first to each next; the number of rules ends a chain
+-- the next rule of a job from a position on, or the end; every rule of the job before it is written twice
+pub record NextOf (rs : List ℕ) (j from to : ℕ) : Type 0 where
+  pub rises : from ≤ to
+  pub within : to ≤ rule-count rs
+  pub own : to < rule-count rs → rule-at rs to .job ≡ j
+  pub between : (i : ℕ) → from ≤ i → i < to → rule-at rs i .job ≡ j → Repeated rs i
+
+-- CHAINS: the rules of a job from its first to each next, without those that are written twice; the number of rules ends a chain
 pub record Chained (rs first next : List ℕ) : Type 0 where
-  pub starts : (j : ℕ) → j < 24 → getD first j 0 ≡ seek (of-job j) (all-rules rs)
-  pub goes-on : (i : ℕ) → i < rule-count rs →
-      getD next i 0 ≡ suc i + seek (of-job (rule-at rs i .job)) (drop (suc i) (all-rules rs))
+  pub starts : (j : ℕ) → j < 24 → NextOf rs j 0 (getD first j 0)
+  pub goes-on : (i : ℕ) → i < rule-count rs → NextOf rs (rule-at rs i .job) (suc i) (getD next i 0)
 
 -- a position on the chain of a job: a rule of the job, or the end
 pub record OnChain (rs : List ℕ) (j i : ℕ) : Type 0 where

@@ -8,6 +8,7 @@ ghost use mathlib.Core.Path.{_≡_};
 ghost use Prim.Native.Nat.{ℕ, _<_};
 ghost use lib.ListN.{length};
 ghost use Rattle.rules.specs.Lists.{GoodList};
+ghost use Rattle.repeated.specs.Repeated.{RepeatsMarked};
 ghost use Rattle.prepare.specs.Prepared.{Normed, ShortRow, RowNorm, RowNorms, Lowered, Chained, Marked};
 
 // The norm of a row of at most four jobs.
@@ -52,9 +53,16 @@ pub fn lowering_rules(jobs: usize, rules: &[u8], norms: &[u16; 24], sums: &[u16;
     low
 }
 
-// The rules of each job as a chain: the first rule of each job, and after each rule the next of its job.
-pub fn chain_rules(jobs: usize, rules: &[u8], next: &mut [u8; 252]) -> [u8; 24]
+// The rules of each job as a chain: the first rule of each job, and after each rule the next of its job. Rules that are marked because
+// they are written twice are left out.
+pub fn chain_rules(
+    jobs: usize,
+    rules: &[u8],
+    repeated: &[u8; 252],
+    next: &mut [u8; 252],
+) -> [u8; 24]
     requires { ⌜ GoodList jobs (now rules) ⌝ }
+    requires { ⌜ RepeatsMarked (now rules) (now repeated) ⌝ }
     requires { ⌜ length (now next) ≡ 252 ⌝ }
     ensures { λ r. ⌜ Chained (now (rules .entry)) r (now (next .exit)) ⌝ }
 {
@@ -65,6 +73,9 @@ pub fn chain_rules(jobs: usize, rules: &[u8], next: &mut [u8; 252]) -> [u8; 24]
         i -= 1;
         let j = rule_job(rules, i);
         next[i] = first[j];
+        if 0 < repeated[i] {
+            continue;
+        }
         first[j] = i as u8;
     }
     first

@@ -1,9 +1,10 @@
 -- The rules of a job along its chain: no job after a rule that was passed has moved. Assumes nothing.
-use mathlib.Core.Path.{_≡_}
+use mathlib.Core.Path.{_≡_, subst}
 use mathlib.Core.List.{List}
 use Prim.Native.Nat.{ℕ, _≤_, _<_}
 use native.Mathlib.Omega.{arith}
 use lib.ListN.{length, getD}
+use Rattle.bpa.specs.Plans.{Rule}
 use Rattle.bpa.proofs.Basics.JobsBelow.{below-at}
 use Rattle.rules.specs.Places.{rule-at, rule-count}
 use Rattle.rules.specs.Lists.{HasPlace}
@@ -41,7 +42,8 @@ module _ (rs next moved : List ℕ) (start job total : ℕ) (c : ChainOf rs next
     rises = chain-rises rs (c .first) next (c .chained) job k inside (p .on)
 
     pub passed-next : (n : ℕ) → n ≡ getD next k 0 → Unmoved moved (rule-at rs k .after) → Passed rs moved job total n
-    passed-next n e here = walk.passed-next rs (c .first) next (c .chained) job total P k p h here n e
+    passed-next n e here =
+        walk.passed-next rs (c .first) next (c .chained) job total P k p h (λ i m l b same. subst (λ (r : Rule). Unmoved moved (r .after)) same) here n e
 
 -- the end of the chain
 pub passed-all : (rs moved : List ℕ) (job total k : ℕ) → Passed rs moved job total k → total ≤ k → Untouched rs moved job

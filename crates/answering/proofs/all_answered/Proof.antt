@@ -16,6 +16,7 @@ use Rattle.rows.specs.Region.{row, old-half, new-half}
 use Rattle.answering.specs.Agreeing.{rows-for, rest-for, Found, MineRule, lead, EqualOld, Answered, Known}
 use Rattle.answering.specs.declared.Pair.{Pair}
 use Rattle.prepare.proofs.PassedRules.{Passed, passed-start, inside, passed-next}
+use Rattle.answering.proofs.EqualRules.{answered-alike}
 use Rattle.answering.proofs.KnownRules.{found-answers, known-more, none-answered, every-answered}
 use Rattle.answering.proofs.Hints.{Hinted, Paired, hinted-start, pairing-hinted, hinted-next}
 use Rattle.answering.proofs.all_answered.Statement.{statement}
@@ -155,7 +156,9 @@ goes-on c a =
     let turn = c .before .before in
     let start = entry turn in
     passed-next (rs start) (pairing start .first) (next start) (pairing start .chained) (mine start) (total turn) (Mine-answered start) (k turn)
-    (passed turn) (turn .loop-test .taken) a (c .wide .result) (c .wide .ensures .is)
+    (passed turn) (turn .loop-test .taken)
+    (answered-alike (forward start) (rs start) (sums start) (pairing start .alike) (gap start) (d start) (e start) (norm start) (behind start)
+    (tail start) (other start)) a (c .wide .result) (c .wide .ensures .is)
 
 element-copy-out-wide : tie.Need-element-copy-out-wide Inv-loop μ-loop
 element-copy-out-wide c = few c

@@ -13,6 +13,7 @@ use Rattle.rows.specs.Region.{row}
 use Rattle.answering.specs.Agreeing.{Asking}
 use Rattle.prepare.proofs.PassedRules.{Passed, passed-start, inside, passed-next}
 use Rattle.answering.proofs.RuleSearch.{Apart, apart, found-hint, found-here, found-none}
+use Rattle.answering.proofs.EqualRules.{apart-alike}
 use Rattle.answering.proofs.answered.Statement.{statement}
 use Rattle.answering.proofs.answered.Tie as tie
 
@@ -135,6 +136,7 @@ loop-again c =
     let start = entry turn in
     passed-next (rs start) (asking start .first) (next start) (asking start .chained) (other start) (total turn) (Apart-from start) (k turn)
     (turn .before .loop .inv) (turn .loop-test .taken)
+    (apart-alike (forward start) (rs start) (sums start) (asking start .alike) (gap start) (e start) (rest start) (r start))
     (apart (forward start) (e start) (rs start) (sums start) (gap start) (rest start) (r start)
     (c .before .agrees-from .result) (k turn) (c .before .agrees-from .ensures) (c .if2 .left))
     (c .before .before .wide .result) (c .before .before .wide .ensures .is)

@@ -9,7 +9,7 @@ returns c =
     let order = c .before .before .before .before .before in
     let mark = order .before in
     let chain = mark .before in
-    let low = chain .before .before in
+    let low = chain .before .before .before .before in
     let start = low .before .before in
     let a = start .args in
     facts-made (a .jobs) (a .rules .now) (a .norms .now) (a .sums .now) _ (mark .mark-steps .result) (chain .chain-rules .result)
@@ -21,6 +21,7 @@ facts-of-spec =
     tie.close
     (tie.spec
     (λ c κs. search needs)  -- lowering-rules-requires
+    (λ c κs. search needs)  -- repeated-rules-requires
     (λ c κs. search needs)  -- chain-rules-requires
     (λ c κs. search needs)  -- mark-steps-requires
     (λ c κs. search needs)  -- order-requires

@@ -1,0 +1,3 @@
+-- Laws of rules that are written twice.
+pub mod EqualPlaces
+pub mod MarkedRules

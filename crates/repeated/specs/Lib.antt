@@ -1,0 +1,2 @@
+-- Rules that are written twice.
+pub mod Repeated
