@@ -3,6 +3,7 @@ pub mod Agreement
 pub mod RuleSearch
 pub mod EqualRules
 pub mod RowsAsked
+pub mod LedRules
 pub mod KnownRules
 pub mod TurnedPair
 pub mod Hints

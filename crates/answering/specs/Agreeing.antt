@@ -56,40 +56,49 @@ rest-for false o n = o
 abbrev pub Prints-small : (jobs : ℕ) → (prints : List ℕ) → Type 0
 Prints-small n ps = (j : ℕ) → j < n → (getD ps j 0 < modulus) × (getD ps (24 + j) 0 < modulus)
 
--- what a comparison by some rows asks of them and of the rules
-pub record Comparing (rs prints lens region : List ℕ) (gap value power : ℕ) : Type 0 where
+-- what the tests before a comparison ask of the rules and of the tail
+pub record Printing (rs prints : List ℕ) (gap value power : ℕ) : Type 0 where
   pub jobs : ℕ
   pub list : GoodList jobs rs
-  pub within : Within jobs lens region
   pub prints-small : Prints-small jobs prints
   pub gap-small : gap ≤ 512
   pub value-small : value < modulus
   pub power-small : power < modulus
 
+-- what they tell: rules that may agree have equal moves and norms of what they leave; others have not, or have unequal fingerprints
+pub record MayAgree (rs sums prints : List ℕ) (gap value power r s : ℕ) (out : Bool) : Type 0 where
+  pub move : out ≡ true → rule-at rs r .move ≡ rule-at rs s .move
+  pub norm : out ≡ true → getD sums r 0 ≡ getD sums s 0 + gap
+  pub all : rule-at rs r .move ≡ rule-at rs s .move → getD sums r 0 ≡ getD sums s 0 + gap → Same-print rs prints value power r s → out ≡ true
+
+-- the rows of both halves of an area, X with its tail, and a part of the old rows
+pub record Halves (rs old new area parts : List ℕ) (from to : ℕ) : Type 0 where
+  pub jobs : ℕ
+  pub list : GoodList jobs rs
+  pub size : length area ≡ 24576
+  pub old-within : Within jobs old (old-half area)
+  pub new-within : Within jobs new (new-half area)
+  pub some : 1 ≤ length parts
+  pub starts : from ≤ to
+  pub inside : to ≤ 12288
+
+-- what rule r of Y and rule s of X leave, with a row behind it as it stands, is equal by the rows
+abbrev pub Left-equal : Rows → (rules rest : List ℕ) → (r s : ℕ) → Type 0
+Left-equal e rs rest r s = expand e (rule-at rs r .after) ≡ expand e (rule-at rs s .after) ++ rest
+
 -- equal rules have equal norms of their rows
 abbrev pub Sums-alike : (rules sums : List ℕ) → Type 0
 Sums-alike rs sums = (i k : ℕ) → i < k → k < rule-count rs → rule-at rs i ≡ rule-at rs k → getD sums i 0 ≡ getD sums k 0
 
--- a rule that asks, and the chain of the rules that may answer it
-pub record Asking (forward : Bool) (e : Rows) (rs sums next prints : List ℕ) (gap value power : ℕ) (rest : List ℕ) (other start hint r : ℕ) : Type 0 where
-  pub inside : r < rule-count rs
-  pub alike : Sums-alike rs sums
-  pub first : List ℕ
-  pub chained : Chained rs first next
-  pub other-job : other < 24
-  pub starts : start ≡ getD first other 0
-  pub hint-on : OnChain rs other hint
-  pub tells : (s : ℕ) → s < rule-count rs → rule-at rs s .job ≡ other → Tells-from forward e rs sums prints gap value power rest r s
+-- the rule that is tried first
+pub record FirstTried (hint tries total r : ℕ) : Type 0 where
+  pub hinted : hint < total → r ≡ hint
+  pub first : total ≤ hint → r ≡ tries
 
--- a rule that asks, and one that is tried first: a rule of the other job, or none
-pub record HintAsking (forward : Bool) (e : Rows) (rs sums prints : List ℕ) (gap value power : ℕ) (rest : List ℕ) (other hint r : ℕ) : Type 0 where
-  pub inside : r < rule-count rs
-  pub hint-on : OnChain rs other hint
-  pub tells : hint < rule-count rs → Tells-from forward e rs sums prints gap value power rest r hint
-
-pub record HintAnswer (forward : Bool) (e : Rows) (rs sums : List ℕ) (gap : ℕ) (rest : List ℕ) (hint r : ℕ) (out : Bool) : Type 0 where
-  pub inside : out ≡ true → hint < rule-count rs
-  pub agrees : out ≡ true → Agree-from forward e rs sums gap rest r hint
+-- the rule behind a rule of a chain
+pub record RuleBehind (next : List ℕ) (k total r : ℕ) : Type 0 where
+  pub behind : k < total → r ≡ getD next k 0
+  pub end : total ≤ k → r ≡ total
 
 -- what is found: a rule that answers, or that there is none
 pub record Found (forward : Bool) (e : Rows) (rs sums : List ℕ) (gap : ℕ) (rest : List ℕ) (other r k : ℕ) : Type 0 where

@@ -18,7 +18,7 @@ ghost use Rattle.bpa.specs.Method.{expand};
 ghost use Rattle.rules.specs.Places.{rule-count};
 ghost use Rattle.rows.specs.Region.{row, old-half, new-half};
 ghost use Rattle.rows.specs.Answers.{Decides};
-ghost use Rattle.answering.specs.Agreeing.{IsNorm, Agree, Agree-from, Same-print, Tells-from, rows-for, rest-for, Comparing, Found, Asking, HintAsking, HintAnswer, lead, EqualOld, Pairing, MineRule, OldPair, Known, AllAnswered, RulesMatch};
+ghost use Rattle.answering.specs.Agreeing.{IsNorm, Agree-from, Same-print, Printing, MayAgree, Halves, Left-equal, rows-for, rest-for, FirstTried, RuleBehind, Found, lead, EqualOld, Pairing, MineRule, OldPair, Known, AllAnswered, RulesMatch};
 
 // The two jobs, of which `mine` asks and `other` answers; `asks` and `tries` are the places of their first rules. If Y asks, it is
 // forward. The norm is that of the job that asks. The gap is the norm of the tail, value and power are its fingerprint by the old rows, and
@@ -46,44 +46,40 @@ fn wide_norm(norm: u16) -> u64
     norm as u64
 }
 
-// Whether fingerprints show that rule r of Y and rule s of X do not agree. They are worked out only where what is left may be long.
-fn told_apart(
-    rules: &[u8],
-    sums: &[u16; 252],
-    prints: &[u64; 48],
-    pair: Pair,
-    r: usize,
-    s: usize,
-) -> bool
-    requires { ⌜ ((lens : List ℕ) × (region : List ℕ) × Comparing (now rules) (now prints) lens region (pair .gap) (pair .value) (pair .power)) ⌝ }
-    requires { ⌜ (r < rule-count (now rules)) × (s < rule-count (now rules)) ⌝ }
-    ensures { λ out. ⌜ (out ≡ true → Same-print (now (rules .entry)) (now (prints .entry)) (pair .value) (pair .power) r s → ⊥) ⌝ }
+// One of two numbers: the first, or the second.
+fn pick(first: bool, a: usize, b: usize) -> usize
+    ensures { λ r. ⌜ r ≡ lead first a b ⌝ }
 {
-    if wide_norm(sums[r]) < 64 {
-        return false;
+    if first {
+        return a;
     }
-    let left = plan_print(prints, rule_after(rules, r));
-    let right = plan_print(prints, rule_after(rules, s));
-    left.value != joined(right.value, pair.power, pair.value)
+    b
 }
 
-// Whether rule r of Y and rule s of X agree by these rows, `rest` standing behind X. What they leave is not looked at if its norms are
-// unequal, or if it is long and its fingerprints are unequal.
-fn agrees(
+// Whether what rule r of Y and rule s of X leave has equal fingerprints.
+fn same_print(rules: &[u8], prints: &[u64; 48], pair: Pair, r: usize, s: usize) -> bool
+    requires { ⌜ Printing (now rules) (now prints) (pair .gap) (pair .value) (pair .power) ⌝ }
+    requires { ⌜ (r < rule-count (now rules)) × (s < rule-count (now rules)) ⌝ }
+    ensures { λ out. ⌜ (Same-print (now (rules .entry)) (now (prints .entry)) (pair .value) (pair .power) r s → out ≡ true) ⌝ }
+{
+    let left = plan_print(prints, rule_after(rules, r));
+    let right = plan_print(prints, rule_after(rules, s));
+    left.value == joined(right.value, pair.power, pair.value)
+}
+
+// Whether rule r of Y and rule s of X may agree: their moves are equal, and what they leave has equal norms, and equal fingerprints if it
+// may be long. It is not expanded for that.
+fn may_agree(
     rules: &[u8],
     sums: &[u16; 252],
     prints: &[u64; 48],
-    rows: &[u8],
-    lens: &[u16; 24],
-    rest: &[u8],
     pair: Pair,
     r: usize,
     s: usize,
 ) -> bool
-    requires { ⌜ Comparing (now rules) (now prints) (now lens) (now rows) (pair .gap) (pair .value) (pair .power) ⌝ }
+    requires { ⌜ Printing (now rules) (now prints) (pair .gap) (pair .value) (pair .power) ⌝ }
     requires { ⌜ (r < rule-count (now rules)) × (s < rule-count (now rules)) ⌝ }
-    requires { ⌜ Tells-from true (row (now lens) (now rows)) (now rules) (now sums) (now prints) (pair .gap) (pair .value) (pair .power) (now rest) r s ⌝ }
-    ensures { λ out. ⌜ Decides out (Agree (row (now (lens .entry)) (now (rows .entry))) (now (rules .entry)) (now (sums .entry)) (pair .gap) (now (rest .entry)) r s) ⌝ }
+    ensures { λ out. ⌜ MayAgree (now (rules .entry)) (now (sums .entry)) (now (prints .entry)) (pair .gap) (pair .value) (pair .power) r s out ⌝ }
 {
     if rule_move(rules, r) != rule_move(rules, s) {
         return false;
@@ -92,89 +88,99 @@ fn agrees(
     if wide_norm(sums[r]) != wide_norm(sums[s]) + gap {
         return false;
     }
-    if told_apart(rules, sums, prints, pair, r, s) {
-        return false;
+    if wide_norm(sums[r]) < 64 {
+        return true;
     }
-    same_forms(rows, lens, rule_after(rules, r), rule_after(rules, s), rest)
+    same_print(rules, prints, pair, r, s)
 }
 
-// The same of rule r of the job that asks and rule s of the one that answers.
-fn agrees_from(
+// Whether what rule r of Y and rule s of X leave is equal, the tail standing behind X: by the new rows if the norm falls, else by the old ones.
+fn left_equal(
+    rules: &[u8],
+    old: &[u16; 24],
+    new: &[u16; 24],
+    area: &[u8],
+    parts: &[u8],
+    from: usize,
+    to: usize,
+    falls: bool,
+    r: usize,
+    s: usize,
+) -> bool
+    requires { ⌜ Halves (now rules) (now old) (now new) (now area) (now parts) from to ⌝ }
+    requires { ⌜ (r < rule-count (now rules)) × (s < rule-count (now rules)) ⌝ }
+    ensures { λ out. ⌜ Decides out (Left-equal (rows-for falls (row (now (old .entry)) (old-half (now (area .entry)))) (row (now (new .entry)) (new-half (now (area .entry))))) (now (rules .entry)) (rest-for falls (slice from to (now (area .entry))) (drop 1 (now (parts .entry)))) r s) ⌝ }
+{
+    let left = rule_after(rules, r);
+    let right = rule_after(rules, s);
+    if falls {
+        return same_forms(&area[12288..24576], new, left, right, &parts[1..]);
+    }
+    same_forms(&area[0..12288], old, left, right, &area[from..to])
+}
+
+// Whether rule r of the job that asks and rule s of the other agree by the rows that rule r asks for: the new ones if the norm of its job
+// falls, else the old ones.
+fn agrees(
     rules: &[u8],
     sums: &[u16; 252],
     prints: &[u64; 48],
-    rows: &[u8],
-    lens: &[u16; 24],
-    rest: &[u8],
+    old: &[u16; 24],
+    new: &[u16; 24],
+    area: &[u8],
+    parts: &[u8],
     pair: Pair,
     r: usize,
     s: usize,
 ) -> bool
-    requires { ⌜ Comparing (now rules) (now prints) (now lens) (now rows) (pair .gap) (pair .value) (pair .power) ⌝ }
-    requires { ⌜ (r < rule-count (now rules)) × (s < rule-count (now rules)) ⌝ }
-    requires { ⌜ Tells-from (pair .forward) (row (now lens) (now rows)) (now rules) (now sums) (now prints) (pair .gap) (pair .value) (pair .power) (now rest) r s ⌝ }
-    ensures { λ out. ⌜ Decides out (Agree-from (pair .forward) (row (now (lens .entry)) (now (rows .entry))) (now (rules .entry)) (now (sums .entry)) (pair .gap) (now (rest .entry)) r s) ⌝ }
+    requires { ⌜ ((next : List ℕ) × Pairing (now rules) (now sums) next (now prints) (now old) (now new) (now area) (now parts) (pair .forward) (pair .mine) (pair .other) (pair .asks) (pair .tries) (pair .norm) (pair .gap) (pair .value) (pair .power) (pair .from) (pair .to) (pair .hint)) ⌝ }
+    requires { ⌜ EqualOld (now old) (now area) (now parts) (lead (pair .forward) (pair .mine) (pair .other)) ⌝ }
+    requires { ⌜ MineRule (now rules) (pair .mine) r × MineRule (now rules) (pair .other) s ⌝ }
+    ensures { λ out. ⌜ Decides out (Agree-from (pair .forward) (rows-for (ltb (getD (now (sums .entry)) r 0) (pair .norm)) (row (now (old .entry)) (old-half (now (area .entry)))) (row (now (new .entry)) (new-half (now (area .entry))))) (now (rules .entry)) (now (sums .entry)) (pair .gap) (rest-for (ltb (getD (now (sums .entry)) r 0) (pair .norm)) (slice (pair .from) (pair .to) (now (area .entry))) (drop 1 (now (parts .entry)))) r s) ⌝ }
 {
-    if pair.forward {
-        return agrees(rules, sums, prints, rows, lens, rest, pair, r, s);
-    }
-    agrees(rules, sums, prints, rows, lens, rest, pair, s, r)
-}
-
-// Whether the rule that is tried first agrees with rule r by these rows. Rules that answer one another often stand in the same order.
-fn hint_agrees(
-    rules: &[u8],
-    sums: &[u16; 252],
-    prints: &[u64; 48],
-    rows: &[u8],
-    lens: &[u16; 24],
-    rest: &[u8],
-    pair: Pair,
-    r: usize,
-) -> bool
-    requires { ⌜ Comparing (now rules) (now prints) (now lens) (now rows) (pair .gap) (pair .value) (pair .power) ⌝ }
-    requires { ⌜ HintAsking (pair .forward) (row (now lens) (now rows)) (now rules) (now sums) (now prints) (pair .gap) (pair .value) (pair .power) (now rest) (pair .other) (pair .hint) r ⌝ }
-    ensures { λ out. ⌜ HintAnswer (pair .forward) (row (now (lens .entry)) (now (rows .entry))) (now (rules .entry)) (now (sums .entry)) (pair .gap) (now (rest .entry)) (pair .hint) r out ⌝ }
-{
-    let hint = pair.hint;
-    if hint < rule_total(rules) {
-        return agrees_from(rules, sums, prints, rows, lens, rest, pair, r, hint);
+    let y = pick(pair.forward, r, s);
+    let x = pick(pair.forward, s, r);
+    if may_agree(rules, sums, prints, pair, y, x) {
+        let falls = wide_norm(sums[r]) < pair.norm;
+        return left_equal(
+            rules,
+            old,
+            new,
+            area,
+            parts,
+            pair.from,
+            pair.to,
+            falls,
+            y,
+            x,
+        );
     }
     false
 }
 
-// The place of a rule of the other job that agrees with rule r by these rows; the number of rules if there is none.
-fn answered(
-    rules: &[u8],
-    sums: &[u16; 252],
-    next: &[u8; 252],
-    prints: &[u64; 48],
-    rows: &[u8],
-    lens: &[u16; 24],
-    rest: &[u8],
-    pair: Pair,
-    r: usize,
-) -> usize
-    requires { ⌜ Comparing (now rules) (now prints) (now lens) (now rows) (pair .gap) (pair .value) (pair .power) ⌝ }
-    requires { ⌜ Asking (pair .forward) (row (now lens) (now rows)) (now rules) (now sums) (now next) (now prints) (pair .gap) (pair .value) (pair .power) (now rest) (pair .other) (pair .tries) (pair .hint) r ⌝ }
-    ensures { λ k. ⌜ Found (pair .forward) (row (now (lens .entry)) (now (rows .entry))) (now (rules .entry)) (now (sums .entry)) (pair .gap) (now (rest .entry)) (pair .other) r k ⌝ }
+// The rule that is tried first: the hint, or the first rule of the chain if it is none.
+fn first_tried(hint: usize, tries: usize, total: usize) -> usize
+    ensures { λ r. ⌜ FirstTried hint tries total r ⌝ }
 {
-    if hint_agrees(rules, sums, prints, rows, lens, rest, pair, r) {
-        return pair.hint;
+    if hint < total {
+        return hint;
     }
-    let total = rule_total(rules);
-    let mut k = pair.tries;
-    while k < total {
-        let s = k;
-        k = wide(next[s]);
-        if agrees_from(rules, sums, prints, rows, lens, rest, pair, r, s) {
-            return s;
-        }
+    tries
+}
+
+// The rule behind a rule of a chain; the end stays the end.
+fn rule_behind(next: &[u8; 252], k: usize, total: usize) -> usize
+    requires { ⌜ total ≤ 252 ⌝ }
+    ensures { λ r. ⌜ RuleBehind (now (next .entry)) k total r ⌝ }
+{
+    if k < total {
+        return wide(next[k]);
     }
     total
 }
 
-// The same by the rows that rule r asks for: the new ones if the norm of its job falls, else the old ones.
+// The place of a rule of the other job that agrees with rule r; the number of rules if there is none. Rules that answer one another often
+// stand in the same order, so the hint is tried first.
 fn answer_to(
     rules: &[u8],
     sums: &[u16; 252],
@@ -192,32 +198,18 @@ fn answer_to(
     requires { ⌜ MineRule (now rules) (pair .mine) r ⌝ }
     ensures { λ k. ⌜ Found (pair .forward) (rows-for (ltb (getD (now (sums .entry)) r 0) (pair .norm)) (row (now (old .entry)) (old-half (now (area .entry)))) (row (now (new .entry)) (new-half (now (area .entry))))) (now (rules .entry)) (now (sums .entry)) (pair .gap) (rest-for (ltb (getD (now (sums .entry)) r 0) (pair .norm)) (slice (pair .from) (pair .to) (now (area .entry))) (drop 1 (now (parts .entry)))) (pair .other) r k ⌝ }
 {
-    if wide_norm(sums[r]) < pair.norm {
-        return answered(
-            rules,
-            sums,
-            next,
-            prints,
-            &area[12288..24576],
-            new,
-            &parts[1..],
-            pair,
-            r,
-        );
+    let total = rule_total(rules);
+    let mut k = pair.tries;
+    let mut s = first_tried(pair.hint, k, total);
+    while s < total {
+        let at = s;
+        s = k;
+        k = rule_behind(next, s, total);
+        if agrees(rules, sums, prints, old, new, area, parts, pair, r, at) {
+            return at;
+        }
     }
-    let from = pair.from;
-    let to = pair.to;
-    answered(
-        rules,
-        sums,
-        next,
-        prints,
-        &area[0..12288],
-        old,
-        &area[from..to],
-        pair,
-        r,
-    )
+    total
 }
 
 // Whether each rule of the job that asks is answered. A rule that answers is answered itself, and is not asked when it is its job's turn.
