@@ -17,7 +17,7 @@ use Rattle.decompositions.specs.Decompositions.{Tail}
 use Rattle.tails.specs.Cuts.{Reached}
 use Rattle.tails.proofs.Tails.{reached-tail, missed-tail}
 use Rattle.facts.specs.Facts.{norms-in, jobs-in, table-by, Tables}
-use Rattle.decomposing.specs.Candidates.{LoweredRow}
+use Rattle.decomposing.specs.Candidates.{Lowered}
 use Rattle.decomposing.proofs.JobsOfTable.{job-by, over-below}
 
 -- the one tail of a job
@@ -28,16 +28,13 @@ pub record FoundTail (rs facts : List ℕ) (e : Rows) (y x : ℕ) (tail : List �
   pub only : (other : List ℕ) → Tail (table-by facts rs) (norms-in facts) e y x other → other ≡ tail
 
 module _ (rs sums next facts : List ℕ) (tables : Tables rs sums next facts) (e : Rows) (y x : ℕ) (hy : y < jobs-in facts) (hx : x < jobs-in facts)
-    (low : List ℕ) (len : ℕ) (l : LoweredRow rs facts e y low len) (goal : ℕ) (goal-is : goal ≡ getD (norms-in facts) x 0 - 1)
-    (at norm : ℕ) (r : Reached (norms-in facts) (take len low) goal at norm) where
+    (low : List ℕ) (l : Lowered rs facts e y low) (goal : ℕ) (goal-is : goal ≡ getD (norms-in facts) x 0 - 1)
+    (at norm : ℕ) (r : Reached (norms-in facts) low goal at norm) where
   abbrev t : Table
   t = table-by facts rs
 
   abbrev ns : List ℕ
   ns = norms-in facts
-
-  abbrev row : List ℕ
-  row = take len low
 
   some : 1 ≤ getD ns x 0
   some = norm-positive t ns (tables .good) x (job-by facts rs x hx)
@@ -49,7 +46,7 @@ module _ (rs sums next facts : List ℕ) (tables : Tables rs sums next facts) (e
 
   pub no-tail : (norm ≡ goal → ⊥) → (tail : List ℕ) → Tail t ns e y x tail → ⊥
   no-tail d tail k =
-      missed-tail ns row goal at norm r (k .front) tail (l .is ∙ k .parts) (front-norm tail k)
+      missed-tail ns low goal at norm r (k .front) tail (l .is ∙ k .parts) (front-norm tail k)
       (below norm goal (r .enough) d)
     where
       below : (a b : ℕ) → a ≤ b → (a ≡ b → ⊥) → a < b
@@ -57,27 +54,27 @@ module _ (rs sums next facts : List ℕ) (tables : Tables rs sums next facts) (e
 
   module _ (is : norm ≡ goal) where
     abbrev tail : List ℕ
-    tail = drop at row
+    tail = drop at low
 
-    parts : row ≡ take at row ++ tail
-    parts = sym (take-append-drop at row)
+    parts : low ≡ take at low ++ tail
+    parts = sym (take-append-drop at low)
 
     inside : over t tail ≡ true
-    inside = over-right t (take at row) tail (subst (λ (p : List ℕ). over t p ≡ true) parts (l .inside))
+    inside = over-right t (take at low) tail (subst (λ (p : List ℕ). over t p ≡ true) parts (l .inside))
 
     tail-norm : getD ns x 0 + sum-of ns tail ≡ getD ns y 0
     tail-norm =
-        omega (arith, some, l .norm, r .place .norm-is, ap (sum-of ns) parts, sum-append ns (take at row) tail)
+        omega (arith, some, l .norm, r .place .norm-is, ap (sum-of ns) parts, sum-append ns (take at low) tail)
 
     pub tail-found : FoundTail rs facts e y x tail
     tail-found = record {
       inside = inside;
       short = omega (arith, some, tail-norm, length-norm t ns (tables .good) tail inside, tables .small y hy);
-      ends = record { front = take at row; parts = sym (l .is) ∙ parts; norm = tail-norm };
+      ends = record { front = take at low; parts = sym (l .is) ∙ parts; norm = tail-norm };
       only = λ other k.
-          reached-tail ns row goal at norm r (k .front) other (l .is ∙ k .parts) (front-norm other k)
+          reached-tail ns low goal at norm r (k .front) other (l .is ∙ k .parts) (front-norm other k)
           (λ i b.
-          norm-positive t ns (tables .good) (getD row i 0)
-          (job-by facts rs (getD row i 0) (below-at (jobs-in facts) row i (over-below facts rs row (l .inside)) b)))
+          norm-positive t ns (tables .good) (getD low i 0)
+          (job-by facts rs (getD low i 0) (below-at (jobs-in facts) low i (over-below facts rs low (l .inside)) b)))
           is;
     }

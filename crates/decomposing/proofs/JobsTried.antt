@@ -2,15 +2,13 @@
 -- in the end is the new row. Assumes nothing.
 use mathlib.Core.Path.{_≡_, sym, ap, subst, _∙_}
 use mathlib.Core.Bool.{true}
-use mathlib.Core.List.{List, [], _∷_, _++_}
+use mathlib.Core.List.{List, [], _∷_}
 use mathlib.Core.Logic.{⊎-elim}
-use Prim.Native.Nat.{ℕ, _+_, _-_, _≤_, _<_}
+use Prim.Native.Nat.{ℕ, suc, _+_, _-_, _≤_, _<_}
 use native.Mathlib.Nat.{eq-or-lt-of-le}
 use native.Mathlib.Omega.{arith}
-use lib.ListN.{length, getD, take, set, length-set}
-use lib.Seq.{take-suc-set}
-use Rattle.area.specs.Areas.{put, IsPut}
-use Rattle.area.proofs.Puts.{put-length, put-up-to}
+use lib.ListN.{length, getD, take, drop, set, length-set}
+use lib.Seq.{slice, slice-cons, drop-drop, getD-set-same, set-getD, set-set, take-set-lt, drop-set-lt, take-suc-set}
 use Rattle.bpa.specs.Plans.{Table}
 use Rattle.bpa.specs.Norms.{sum-of}
 use Rattle.bpa.specs.Method.{Rows, precedes}
@@ -92,38 +90,46 @@ module _ (rs facts : List ℕ) (d e : Rows) (place y : ℕ) (row : List ℕ) whe
       let (j, b, is) = place-of-earlier rs sums next facts tables place x h (job-below facts rs x (c .is-job)) before in
       w .none j (omega arith) b tail (subst (λ (z : ℕ). Decomposes t ns d e y z tail) (sym is) c))
 
--- WHAT IS WRITTEN: a job alone, or a job and a tail
-pub record PartsWritten (x : ℕ) (tail out : List ℕ) (r : ℕ) : Type 0 where
+-- WHAT IS WRITTEN: a job alone, or a job in the place before its tail
+pub record PartsWritten (x : ℕ) (tail out : List ℕ) (from to : ℕ) : Type 0 where
   pub size : length out ≡ 512
-  pub some : 1 ≤ r
-  pub short : r ≤ 512
-  pub is : take r out ≡ x ∷ tail
+  pub some : from < to
+  pub short : to ≤ 512
+  pub is : slice from to out ≡ x ∷ tail
 
-module _ (out : List ℕ) (size : length out ≡ 512) (x : ℕ) where
-  first-job : take 1 (set out 0 x) ≡ x ∷ []
-  first-job = take-suc-set out 0 x (omega arith)
+pub job-written : (out : List ℕ) → length out ≡ 512 → (x : ℕ) → PartsWritten x [] (set out 0 x) 0 1
+job-written out size x = record {
+  size = length-set out 0 x ∙ size;
+  some = omega arith;
+  short = omega arith;
+  is = take-suc-set out 0 x (omega arith);
+}
 
-  pub job-written : PartsWritten x [] (set out 0 x) 1
-  job-written = record { size = length-set out 0 x ∙ size; some = omega arith; short = omega arith; is = first-job }
-
-  module _ (tail : List ℕ) (short : length tail < 512) where
-    pub tail-room : 1 + length tail ≤ length (set out 0 x)
-    tail-room = omega (arith, length-set out 0 x)
-
-    pub parts-written : (r : ℕ) (out′ : List ℕ) → IsPut 1 tail (set out 0 x) r out′ → PartsWritten x tail out′ r
-    parts-written r out′ p = record {
-      size = ap length (p .output) ∙ put-length 1 tail (set out 0 x) tail-room ∙ length-set out 0 x ∙ size;
-      some = omega (arith, p .next);
-      short = omega (arith, p .next);
+pub parts-written : (out : List ℕ) → length out ≡ 512 → (x at end : ℕ) → at < end → end ≤ 512 →
+    PartsWritten x (drop at (slice 1 end out)) (set out at x) at end
+parts-written out size x at end some short =
+    let long = length-set out at x in
+    let next : suc at ≡ 1 + at = omega arith in
+    record {
+      size = long ∙ size;
+      some = some;
+      short = short;
       is =
-          ap (take r) (p .output) ∙ ap (λ (n : ℕ). take n (put 1 tail (set out 0 x))) (p .next)
-          ∙ put-up-to 1 tail (set out 0 x) (omega (arith, tail-room))
-          ∙ ap (λ (l : List ℕ). l ++ tail) first-job;
+          slice-cons at end (set out at x) 0 some (omega (arith, long))
+          ∙ ap (λ (j : ℕ). j ∷ slice (suc at) end (set out at x)) (getD-set-same out at x 0 (omega arith))
+          ∙ ap (λ (l : List ℕ). x ∷ drop (suc at) l) (take-set-lt end out at x some)
+          ∙ ap (λ (l : List ℕ). x ∷ l)
+          (drop-set-lt (suc at) (take end out) at x (omega arith) ∙ ap (λ (n : ℕ). drop n (take end out)) next
+          ∙ sym (drop-drop at 1 (take end out)));
     }
 
-pub row-written : (rs facts : List ℕ) (d e : Rows) (y x : ℕ) (tail out : List ℕ) (r : ℕ) → PartsWritten x tail out r →
-    NewRow (table-by facts rs) (norms-in facts) d e y (x ∷ tail) → RowWritten rs facts d e y out r
-row-written rs facts d e y x tail out r w h = record {
+-- the byte that stood there is put back
+pub put-back : (out : List ℕ) (at x : ℕ) → set (set out at x) at (getD out at 0) ≡ out
+put-back out at x = set-set out at x (getD out at 0) ∙ set-getD out at 0
+
+pub row-written : (rs facts : List ℕ) (d e : Rows) (y x : ℕ) (tail out : List ℕ) (from to : ℕ) → PartsWritten x tail out from to →
+    NewRow (table-by facts rs) (norms-in facts) d e y (x ∷ tail) → RowWritten rs facts d e y out from to
+row-written rs facts d e y x tail out from to w h = record {
   size = w .size;
   some = w .some;
   short = w .short;

@@ -4,7 +4,7 @@ use mathlib.Core.List.{List}
 use Prim.Native.Nat.{ℕ, _+_, _-_, _≤_}
 use native.Mathlib.Omega.{arith}
 use lib.ListN.{length, take, drop, length-drop}
-use lib.Seq.{take-all}
+use lib.Seq.{slice, take-all}
 use Rattle.area.proofs.Parts.{part}
 use Rattle.rows.specs.Region.{new-half}
 
@@ -12,16 +12,11 @@ pub new-part : (area : List ℕ) → length area ≡ 24576 → take (24576 - 122
 unfolding new-half
 new-part area e = take-all 12288 (drop 12288 area) (omega (arith, length-drop 12288 area))
 
--- the front of a row, and the end of that front from a place on
-pub front-part : (low : List ℕ) (len : ℕ) → take (len - 0) (drop 0 low) ≡ take len low
-front-part low len =
-    let e : len - 0 ≡ len = omega arith in
-    ap (λ (n : ℕ). take n low) e
-
-pub end-part : (low : List ℕ) (len at : ℕ) → at ≤ len → take (len - at) (drop at low) ≡ drop at (take len low)
-end-part low len at h =
-    let e : at + (len - at) ≡ len = omega arith in
-    part at (len - at) low ∙ ap (λ (n : ℕ). drop at (take n low)) e
+-- a part from one place to another
+pub middle-part : (area : List ℕ) (from to : ℕ) → from ≤ to → take (to - from) (drop from area) ≡ slice from to area
+middle-part area from to h =
+    let e : from + (to - from) ≡ to = omega arith in
+    part from (to - from) area ∙ ap (λ (n : ℕ). slice from n area) e
 
 -- what stands behind the first of a row
 pub tail-part : (parts : List ℕ) → take (length parts - 1) (drop 1 parts) ≡ drop 1 parts

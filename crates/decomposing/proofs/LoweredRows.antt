@@ -3,13 +3,11 @@ use mathlib.Core.Path.{_≡_, sym, ap, subst, _∙_}
 use mathlib.Core.Bool.{true}
 use mathlib.Core.List.{List}
 use Prim.Native.Nat.{ℕ, _+_, _≤_, _<_}
-use native.Mathlib.Nat.{zero-add}
 use native.Mathlib.Omega.{arith}
-use lib.ListN.{length, getD, take}
-use lib.Seq.{take-at}
-use Rattle.area.specs.Areas.{IsPut}
-use Rattle.area.proofs.Puts.{put-length}
-use Rattle.area.proofs.PutLaws.{put-front}
+use lib.ListN.{length, getD, take, drop}
+use lib.Seq.{slice, length-take-le, drop-at}
+use Rattle.area.specs.Areas.{put, IsPut}
+use Rattle.area.proofs.Puts.{put-length, put-up-to}
 use Rattle.bpa.specs.Plans.{Table, over, all-below}
 use Rattle.bpa.specs.Norms.{sum-of}
 use Rattle.bpa.specs.Method.{Rows, expand, lowering}
@@ -87,20 +85,25 @@ module _ (rs facts new area : List ℕ) (y : ℕ) (h : CanLower rs facts new are
     expansion-is : expand (row new region) w ≡ expand e jobs
     expansion-is = ap (λ (l : List ℕ). expand (row new l) w) half ∙ ap (expand e) jobs-are
 
-    pub lowered-room : (out : List ℕ) → length out ≡ 512 → 0 + length (expand (row new region) w) ≤ length out
+    pub lowered-room : (out : List ℕ) → length out ≡ 512 → 1 + length (expand (row new region) w) ≤ length out
     lowered-room out size = omega (arith, ap length expansion-is, short)
 
-    module _ (out out′ : List ℕ) (r : ℕ) (size : length out ≡ 512) (p : IsPut 0 (expand (row new region) w) out r out′) where
-      written : take r out′ ≡ expand e jobs
+    module _ (out out′ : List ℕ) (r : ℕ) (size : length out ≡ 512) (p : IsPut 1 (expand (row new region) w) out r out′) where
+      written : slice 1 r out′ ≡ expand e jobs
       written =
           let x : List ℕ = expand (row new region) w in
-          ap (take r) (p .output ∙ put-front x out) ∙ take-at x _ r (sym (p .next ∙ zero-add (length x))) ∙ expansion-is
+          let one : length (take 1 out) ≡ 1 = length-take-le 1 out (omega arith) in
+          ap (slice 1 r) (p .output) ∙ ap (λ (n : ℕ). slice 1 n (put 1 x out)) (p .next)
+          ∙ ap (drop 1) (put-up-to 1 x out (omega arith)) ∙ drop-at (take 1 out) x 1 one ∙ expansion-is
 
       pub lowered-row : LoweredRow rs facts e y out′ r
       lowered-row = record {
-        size = ap length (p .output) ∙ put-length 0 (expand (row new region) w) out (lowered-room out size) ∙ size;
+        size = ap length (p .output) ∙ put-length 1 (expand (row new region) w) out (lowered-room out size) ∙ size;
+        some = omega (arith, p .next);
         short = omega (arith, p .next, lowered-room out size);
-        is = written;
-        inside = subst (λ (l : List ℕ). over t l ≡ true) (sym written) inside;
-        norm = omega (arith, ap (sum-of ns) written, norm);
+        low = record {
+          is = written;
+          inside = subst (λ (l : List ℕ). over t l ≡ true) (sym written) inside;
+          norm = omega (arith, ap (sum-of ns) written, norm);
+        };
       }

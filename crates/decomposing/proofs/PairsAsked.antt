@@ -28,8 +28,8 @@ use Rattle.decomposing.proofs.EqualPrints.{prints-small, rules-same-pri
 use Rattle.decomposing.proofs.FoundTails.{FoundTail}
 use Rattle.decomposing.proofs.Turns.{Turn, few, y-job, x-job, y-small, x-small, x-before, x-least, y-earlier}
 
-module _ {rs facts sums next prints old new area : List ℕ} {place y : ℕ} {low : List ℕ} {len k at norm₀ x : ℕ}
-    (u : Turn rs facts sums next prints old new area place y low len k at norm₀ x) {tail : List ℕ}
+module _ {rs facts sums next prints old new area : List ℕ} {place y : ℕ} {low : List ℕ} {k at norm₀ x : ℕ}
+    (u : Turn rs facts sums next prints old new area place y low k at norm₀ x) {tail : List ℕ}
     (found : FoundTail rs facts (row new (new-half area)) y x tail) {parts : List ℕ} (parts-are : parts ≡ x ∷ tail) where
   abbrev t : Table
   t = table-by facts rs

@@ -4,14 +4,14 @@ use mathlib.Core.Bool.{true}
 use mathlib.Core.List.{List}
 use Prim.Native.Nat.{ℕ, _+_, _≤_, _<_}
 use native.Mathlib.Omega.{arith}
-use lib.ListN.{getD, take}
+use lib.ListN.{getD}
 use Rattle.bpa.specs.Method.{precedes}
 use Rattle.bpa.proofs.Basics.Order.{precedes-le}
 use Rattle.bpa.proofs.Basics.Plans.{norm-positive}
 use Rattle.rows.specs.Region.{row, old-half, new-half}
 use Rattle.facts.specs.Facts.{norms-in, order-in, jobs-in, table-by}
 use Rattle.facts.proofs.Lookups.{jobs-few, place-job, place-rises}
-use Rattle.decomposing.specs.Candidates.{CanLower, LoweredRow, Decomposable, Earlier-rows}
+use Rattle.decomposing.specs.Candidates.{CanLower, Lowered, Decomposable, Earlier-rows}
 use Rattle.decomposing.proofs.JobsOfTable.{job-by}
 use Rattle.decomposing.proofs.JobsTried.{Tried}
 
@@ -42,15 +42,15 @@ module _ {rs facts sums next prints old new area : List ℕ} {place : ℕ} (h : 
     }
 
 -- what is known as the job x at place k is tried
-pub record Turn (rs facts sums next prints old new area : List ℕ) (place y : ℕ) (low : List ℕ) (len k at norm x : ℕ) : Type 0 where
+pub record Turn (rs facts sums next prints old new area : List ℕ) (place y : ℕ) (low : List ℕ) (k at norm x : ℕ) : Type 0 where
   pub asked : Decomposable rs facts sums next prints old new area place
   pub own : y ≡ getD (order-in facts) place 0
-  pub lowered : LoweredRow rs facts (row new (new-half area)) y low len
-  pub tried : Tried rs facts (row old (old-half area)) (row new (new-half area)) place y (take len low) (k + 1) at norm
+  pub lowered : Lowered rs facts (row new (new-half area)) y low
+  pub tried : Tried rs facts (row old (old-half area)) (row new (new-half area)) place y low (k + 1) at norm
   pub other : x ≡ getD (order-in facts) k 0
 
-module _ {rs facts sums next prints old new area : List ℕ} {place y : ℕ} {low : List ℕ} {len k at norm x : ℕ}
-    (u : Turn rs facts sums next prints old new area place y low len k at norm x) where
+module _ {rs facts sums next prints old new area : List ℕ} {place y : ℕ} {low : List ℕ} {k at norm x : ℕ}
+    (u : Turn rs facts sums next prints old new area place y low k at norm x) where
   abbrev ns : List ℕ
   ns = norms-in facts
 

@@ -3,7 +3,8 @@ use mathlib.Core.Path.{_≡_}
 use mathlib.Core.Bool.{Bool, true}
 use mathlib.Core.List.{List}
 use Prim.Native.Nat.{ℕ, _+_, _*_, _≤_, _<_}
-use lib.ListN.{length, getD, take, drop}
+use lib.ListN.{length, getD, drop}
+use lib.Seq.{slice}
 use Rattle.bpa.specs.Plans.{over}
 use Rattle.bpa.specs.Norms.{sum-of}
 use Rattle.bpa.specs.Method.{Rows, expand, precedes, lowering}
@@ -64,12 +65,17 @@ pub record CanLower (rs facts new area : List ℕ) (y : ℕ) : Type 0 where
       Decomposed (table-by facts rs) (norms-in facts) (row new (new-half area)) j
 
 -- the lowered row: the expansion by the new rows of the jobs after y's first norm-lowering rule, which has one less than y's norm
+pub record Lowered (rs facts : List ℕ) (e : Rows) (y : ℕ) (low : List ℕ) : Type 0 where
+  pub is : low ≡ expand e (lowering (norms-in facts) (table-by facts rs .rules) y)
+  pub inside : over (table-by facts rs) low ≡ true
+  pub norm : sum-of (norms-in facts) low + 1 ≡ getD (norms-in facts) y 0
+
+-- it stands in an area of 512 bytes up to place r, with one place free before it
 pub record LoweredRow (rs facts : List ℕ) (e : Rows) (y : ℕ) (out : List ℕ) (r : ℕ) : Type 0 where
   pub size : length out ≡ 512
+  pub some : 1 ≤ r
   pub short : r ≤ 512
-  pub is : take r out ≡ expand e (lowering (norms-in facts) (table-by facts rs .rules) y)
-  pub inside : over (table-by facts rs) (take r out) ≡ true
-  pub norm : sum-of (norms-in facts) (take r out) + 1 ≡ getD (norms-in facts) y 0
+  pub low : Lowered rs facts e y (slice 1 r out)
 
 -- WHAT THE NEW ROW of the job at a place asks: the old rows are a decomposition, and the new rows of all jobs before it are right
 pub record Decomposable (rs facts sums next prints old new area : List ℕ) (place : ℕ) : Type 0 where
@@ -82,9 +88,9 @@ pub record Decomposable (rs facts sums next prints old new area : List ℕ) (pla
   pub decomposition : Decomposition (table-by facts rs) (norms-in facts) (row old (old-half area))
   pub earlier : Earlier-rows facts rs (row old (old-half area)) (row new (new-half area)) (getD (order-in facts) place 0)
 
--- THE NEW ROW at the front of an area of 512 bytes
-pub record RowWritten (rs facts : List ℕ) (d e : Rows) (y : ℕ) (out : List ℕ) (r : ℕ) : Type 0 where
+-- THE NEW ROW in a part of an area of 512 bytes
+pub record RowWritten (rs facts : List ℕ) (d e : Rows) (y : ℕ) (out : List ℕ) (from to : ℕ) : Type 0 where
   pub size : length out ≡ 512
-  pub some : 1 ≤ r
-  pub short : r ≤ 512
-  pub is : NewRow (table-by facts rs) (norms-in facts) d e y (take r out)
+  pub some : from < to
+  pub short : to ≤ 512
+  pub is : NewRow (table-by facts rs) (norms-in facts) d e y (slice from to out)

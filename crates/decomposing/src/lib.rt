@@ -20,6 +20,12 @@ ghost use Rattle.rows.specs.Answers.{Decides};
 ghost use Rattle.facts.specs.Facts.{order-in};
 ghost use Rattle.decomposing.specs.Candidates.{Likely, CanPair, PairOf, LoweredRow, CanLower, Decomposable, RowWritten};
 
+// Where a row stands in an area.
+pub struct Part {
+    pub from: usize,
+    pub to: usize,
+}
+
 // Whether job x may decompose job y: it is prime in the new rows, their old rows begin with the same job, and their marks do not show
 // steps that differ.
 fn likely(facts: &[u64; 121], new: &[u16; 24], area: &[u8], y: usize, x: usize) -> bool
@@ -67,25 +73,25 @@ fn pair_of(
     }
 }
 
-// The jobs after y's first norm-lowering rule, written out by the new rows. It gives their number.
+// The jobs after y's first norm-lowering rule, written out by the new rows, with one place free before them. It gives where they end.
 fn lowered_row(
     rules: &[u8],
     facts: &[u64; 121],
     new: &[u16; 24],
     area: &[u8],
     y: usize,
-    out: &mut [u8; 512],
+    out: &mut [u8],
 ) -> usize
     requires { ⌜ CanLower (now rules) (now facts) (now new) (now area) y ⌝ }
     requires { ⌜ length (now out) ≡ 512 ⌝ }
     ensures { λ r. ⌜ LoweredRow (now (rules .entry)) (now (facts .entry)) (row (now (new .entry)) (new-half (now (area .entry)))) y (now (out .exit)) r ⌝ }
 {
     let rule = lowering_rule(facts, y);
-    rows::expanding::write_expansion(&area[12288..24576], new, rule_after(rules, rule), out, 0)
+    rows::expanding::write_expansion(&area[12288..24576], new, rule_after(rules, rule), out, 1)
 }
 
-// Writes the new row of the job at a place of the order, and gives its length. Earlier jobs are tried from the last to
-// the first, so that the norms by which the lowered row is cut fall.
+// Writes the new row of the job at a place of the order, and gives where it stands. Earlier jobs are tried from the last to the first, so that
+// the norms by which the lowered row is cut fall. A job is tried in the place before its tail, so that nothing is copied.
 pub fn new_row(
     rules: &[u8],
     facts: &[u64; 121],
@@ -97,16 +103,15 @@ pub fn new_row(
     area: &[u8],
     place: usize,
     out: &mut [u8],
-) -> usize
+) -> Part
     requires { ⌜ Decomposable (now rules) (now facts) (now sums) (now next) (now prints) (now old) (now new) (now area) place ⌝ }
     requires { ⌜ length (now out) ≡ 512 ⌝ }
-    ensures { λ r. ⌜ RowWritten (now (rules .entry)) (now (facts .entry)) (row (now (old .entry)) (old-half (now (area .entry)))) (row (now (new .entry)) (new-half (now (area .entry)))) (getD (order-in (now (facts .entry))) place 0) (now (out .exit)) r ⌝ }
+    ensures { λ r. ⌜ RowWritten (now (rules .entry)) (now (facts .entry)) (row (now (old .entry)) (old-half (now (area .entry)))) (row (now (new .entry)) (new-half (now (area .entry)))) (getD (order-in (now (facts .entry))) place 0) (now (out .exit)) (r .from) (r .to) ⌝ }
 {
     let y = job_at(facts, place);
-    let mut low = [0u8; 512];
-    let len = lowered_row(rules, facts, new, area, y, &mut low);
-    let mut from = Cut {
-        at: len,
+    let end = lowered_row(rules, facts, new, area, y, out);
+    let mut cut = Cut {
+        at: end - 1,
         norm: norm_of(facts, y) - 1,
     };
     let mut k = place;
@@ -115,12 +120,12 @@ pub fn new_row(
         let x = job_at(facts, k);
         if likely(facts, new, area, y, x) {
             let goal = norm_of(facts, x) - 1;
-            from = reach(facts, &low[0..len], from, goal);
-            if from.norm == goal {
-                let at = from.at;
-                out[0] = x as u8;
-                let end = area::put(out, 1, &low[at..len]);
-                let pair = pair_of(facts, prints, old, &out[0..end], y, x);
+            cut = reach(facts, &out[1..end], cut, goal);
+            if cut.norm == goal {
+                let at = cut.at;
+                let kept = out[at];
+                out[at] = x as u8;
+                let pair = pair_of(facts, prints, old, &out[at..end], y, x);
                 if fits(
                     rules,
                     sums,
@@ -129,14 +134,15 @@ pub fn new_row(
                     old,
                     new,
                     area,
-                    &out[0..end],
+                    &out[at..end],
                     pair,
                 ) {
-                    return end;
+                    return Part { from: at, to: end };
                 }
+                out[at] = kept;
             }
         }
     }
     out[0] = y as u8;
-    1
+    Part { from: 0, to: 1 }
 }

@@ -42,8 +42,24 @@ fn wide_norm(n: u16) -> u32
     n as u32
 }
 
-// The sum of the numbers of a plan's jobs, counted up to 4,097. By the norms of jobs it is the plan's norm.
-pub fn capped_sum(numbers: &[u16; 24], plan: &[u8]) -> u32
+// The sum of the numbers of a plan's jobs, if they are so few that no test is needed in the loop.
+fn short_sum(numbers: &[u16; 24], plan: &[u8]) -> u32
+    requires { ⌜ all-below 24 (now plan) ≡ true ⌝ }
+    requires { ⌜ length (now plan) ≤ 4096 ⌝ }
+    ensures { λ r. ⌜ r ≡ sum-of (now (numbers .entry)) (now (plan .entry)) ⌝ }
+{
+    let mut sum: u32 = 0;
+    let mut k = 0;
+    while k < plan.len() {
+        let job = plan[k] as usize;
+        k += 1;
+        sum += norm_of(numbers, job);
+    }
+    sum
+}
+
+// The same for any number of jobs, counted up to 4,097, where it ends.
+fn long_sum(numbers: &[u16; 24], plan: &[u8]) -> u32
     requires { ⌜ all-below 24 (now plan) ≡ true ⌝ }
     ensures { λ r. ⌜ r ≡ min 4097 (sum-of (now (numbers .entry)) (now (plan .entry))) ⌝ }
 {
@@ -58,6 +74,21 @@ pub fn capped_sum(numbers: &[u16; 24], plan: &[u8]) -> u32
         }
     }
     sum
+}
+
+// The sum of the numbers of a plan's jobs, counted up to 4,097. By the norms of jobs it is the plan's norm.
+pub fn capped_sum(numbers: &[u16; 24], plan: &[u8]) -> u32
+    requires { ⌜ all-below 24 (now plan) ≡ true ⌝ }
+    ensures { λ r. ⌜ r ≡ min 4097 (sum-of (now (numbers .entry)) (now (plan .entry))) ⌝ }
+{
+    if 4096 < plan.len() {
+        return long_sum(numbers, plan);
+    }
+    let sum = short_sum(numbers, plan);
+    if sum < 4097 {
+        return sum;
+    }
+    4097
 }
 
 // A job's norm by way of a rule with these jobs after it; 0 is none yet.

@@ -3,10 +3,9 @@ use mathlib.Core.Path.{_≡_, refl, sym, subst, ap, _∙_}
 use mathlib.Core.Bool.{Bool, true}
 use mathlib.Core.List.{List}
 use Prim.Native.Nat.{ℕ, _+_, _*_, _-_, _≤_, _<_}
-use native.Mathlib.Nat.{sub-zero}
 use native.Mathlib.Omega.{arith}
 use lib.ListN.{length, getD, take, drop, set, replicate, length-set, getD-replicate}
-use lib.Seq.{length-take-le, getD-set-other, take-take}
+use lib.Seq.{slice, length-slice, getD-set-other, take-take}
 use Rattle.area.specs.Areas.{put}
 use Rattle.area.proofs.Parts.{part}
 use Rattle.area.proofs.Puts.{put-length}
@@ -22,6 +21,7 @@ use Rattle.facts.proofs.Lookups.{jobs-few, place-job, place-rises}
 use Rattle.fingerprints.specs.Fingerprints.{Printed}
 use Rattle.settled.specs.Settled.{History, Settling, Settles}
 use Rattle.decomposing.specs.Candidates.{Earlier-rows, Decomposable, RowWritten}
+use Rattle.decomposing.proofs.LentParts.{middle-part}
 use Rattle.refining.specs.Rounds.{RowsReady, NewRows}
 use Rattle.refining.proofs.Halves.{new-put, old-put}
 use Rattle.refining.proofs.Lengths.{length-set-each}
@@ -228,25 +228,26 @@ module _ (rs sums next facts old new₀ flags before : List ℕ) (ready : RowsRe
       growing-settled y is out s e = growing-kept y is (s .row-kept e)
 
       -- the row that was worked out is the old one
-      pub growing-same : (y : ℕ) → y ≡ getD (order-in facts) place 0 → (out : List ℕ) (r len end : ℕ) →
-          RowWritten rs facts (row old (old-half after)) (row new (new-half after)) (getD (order-in facts) place 0) out r →
-          len ≡ getD old y 0 → end ≡ 512 * y + len → take (r - 0) out ≡ take (end - 512 * y) (drop (512 * y) after) →
+      pub growing-same : (y : ℕ) → y ≡ getD (order-in facts) place 0 → (out : List ℕ) (from to len end : ℕ) →
+          RowWritten rs facts (row old (old-half after)) (row new (new-half after)) (getD (order-in facts) place 0) out from to →
+          len ≡ getD old y 0 → end ≡ 512 * y + len →
+          take (to - from) (drop from out) ≡ take (end - 512 * y) (drop (512 * y) after) →
           Growing rs facts old before flags new stale moved after (place + 1)
-      growing-same y is out r len end k e q same =
+      growing-same y is out from to len end k e q same =
           let t = table-by facts rs in
           let ns = norms-in facts in
           let d = row old (old-half after) in
           let f = row new (new-half after) in
           let below : y < jobs-in facts = omega (arith, place-job rs sums next facts (ready .tables) place h) in
-          let old-row : take r out ≡ d y =
-          ap (λ (n : ℕ). take n out) (sym (sub-zero r)) ∙ same
+          let old-row : slice from to out ≡ d y =
+          sym (middle-part out from to (omega (arith, k .some))) ∙ same
           ∙ lent-row old after y len end (omega (arith, few)) (ready .old-within .short y below) e q in
           growing-kept y is
-          (subst (NewRow t ns d f y) old-row (subst (λ (i : ℕ). NewRow t ns d f i (take r out)) (sym is) (k .is)))
+          (subst (NewRow t ns d f y) old-row (subst (λ (i : ℕ). NewRow t ns d f i (slice from to out)) (sym is) (k .is)))
 
     -- THE NEW ROW IS WRITTEN
-    module _ (out : List ℕ) (r : ℕ) (h : place < jobs-in facts)
-        (row-written : RowWritten rs facts (row old (old-half after)) (row new (new-half after)) (getD (order-in facts) place 0) out r) where
+    module _ (out : List ℕ) (from to : ℕ) (h : place < jobs-in facts)
+        (row-written : RowWritten rs facts (row old (old-half after)) (row new (new-half after)) (getD (order-in facts) place 0) out from to) where
       y : ℕ
       y = getD (order-in facts) place 0
 
@@ -254,11 +255,17 @@ module _ (rs sums next facts old new₀ flags before : List ℕ) (ready : RowsRe
       unfolding y
       small = omega (arith, few, place-job rs sums next facts (ready .tables) place h)
 
-      long : length (take r out) ≡ r
-      long = length-take-le r out (omega (arith, row-written .short, row-written .size))
+      long : length (slice from to out) ≡ to - from
+      long = length-slice from to out (omega (arith, row-written .short, row-written .size))
 
-      fits : 512 * y + length (take r out) ≤ 12288
-      fits = omega (arith, small, long, row-written .short)
+      some : 1 ≤ to - from
+      some = omega (arith, row-written .some)
+
+      short : to - from ≤ 512
+      short = omega (arith, row-written .short)
+
+      fits : 512 * y + length (slice from to out) ≤ 12288
+      fits = omega (arith, small, long, short)
 
       -- no later job is this one
       later-other : (k : ℕ) → place < k → k < jobs-in facts → getD (order-in facts) k 0 ≡ y → ⊥
@@ -266,16 +273,17 @@ module _ (rs sums next facts old new₀ flags before : List ℕ) (ready : RowsRe
       later-other k a b e =
           precedes-distinct (norms-in facts) y (getD (order-in facts) k 0) (place-rises rs sums next facts (ready .tables) place k a b) (sym e)
 
-      pub growing-more : Growing rs facts old before flags (set new (getD (order-in facts) place 0) r)
+      pub growing-more : Growing rs facts old before flags (set new (getD (order-in facts) place 0) (to - from))
           (set stale (getD (order-in facts) place 0) 1) (set moved (getD (order-in facts) place 0) 1)
-          (put (12288 + 512 * getD (order-in facts) place 0) (take r out) after) (place + 1)
+          (put (12288 + 512 * getD (order-in facts) place 0) (slice from to out) after) (place + 1)
       unfolding y table-by table-of
       growing-more =
           let t = table-by facts rs in
           let ns = norms-in facts in
           let ord = order-in facts in
           let d = row old (old-half before) in
-          let v = take r out in
+          let v = slice from to out in
+          let r = to - from in
           let region = new-half after in
           let e = row new region in
           let e′ = row (set new y r) (put (512 * y) v region) in
@@ -286,12 +294,12 @@ module _ (rs sums next facts old new₀ flags before : List ℕ) (ready : RowsRe
           let moved-inside : y < length moved = omega (arith, small, w .moved-size) in
           let written : NewRow t ns d e y v = subst (λ (l : List ℕ). NewRow t ns (row old l) e y v) (w .kept) (row-written .is) in
           let beside : (j : ℕ) → j < jobs-in facts → (j ≡ y → ⊥) → e′ j ≡ e j =
-          λ j l q. row-old new region v y r room long j q (w .within .short j l) (row-written .short) in
+          λ j l q. row-old new region v y r room long j q (w .within .short j l) short in
           record {
             size = put-length (12288 + 512 * y) v after (omega (arith, fits, w .size)) ∙ w .size;
             kept = old-put (512 * y) v after (w .size) fits ∙ w .kept;
             within = subst (λ (l : List ℕ). Within (jobs-in facts) (set new y r) l) (sym half)
-                (within-more (jobs-in facts) new region v y r (w .within) small long (row-written .some) (row-written .short));
+                (within-more (jobs-in facts) new region v y r (w .within) small long some short);
             refined = subst (λ (l : List ℕ). Refined-before t ns ord d (row (set new y r) l) (place + 1)) (sym half)
                 (refined-more t ns (ready .tables .good) ord (ready .tables .ordered-by) d e e′ place h (w .refined) beside v written
                 (row-new new region v y r room long inside));

@@ -111,7 +111,7 @@ fn new_rows(
         if settled(rules, facts, next, old, new, area, &stale, y) {
             continue;
         }
-        let len = new_row(
+        let part = new_row(
             rules,
             facts,
             sums,
@@ -125,11 +125,13 @@ fn new_rows(
         );
         let start = 512 * y;
         let end = start + row_len(old, y);
-        if same_row(&row[0..len], &area[start..end]) {
+        let from = part.from;
+        let to = part.to;
+        if same_row(&row[from..to], &area[start..end]) {
             continue;
         }
-        area::put(area, 12288 + 512 * y, &row[0..len]);
-        new[y] = len as u16;
+        area::put(area, 12288 + 512 * y, &row[from..to]);
+        new[y] = (to - from) as u16;
         stale[y] = 1;
         moved[y] = 1;
     }

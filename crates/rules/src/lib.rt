@@ -49,17 +49,23 @@ pub fn rule_after(rules: &[u8], i: usize) -> &[u8]
     &rules[start..end]
 }
 
-// Whether every job of a row is below a bound. All of it is looked at.
+// Whether every job of a row is below a bound: whether the greatest is. All of it is looked at, so that many places are compared at once.
 pub fn all_below(bound: usize, bytes: &[u8]) -> bool
     ensures { λ r. ⌜ r ≡ all-below bound (now (bytes .entry)) ⌝ }
 {
+    if bytes.len() == 0 {
+        return true;
+    }
+    let mut most: u8 = 0;
     let mut k = 0;
     while k < bytes.len() {
-        let job = bytes[k] as usize;
-        k += 1;
-        if job >= bound {
-            return false;
+        if most < bytes[k] {
+            most = bytes[k];
         }
+        k += 1;
     }
-    true
+    if wide(most) < bound {
+        return true;
+    }
+    false
 }

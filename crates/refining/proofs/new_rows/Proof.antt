@@ -2,12 +2,13 @@
 use mathlib.Core.Path.{_≡_, refl, sym, subst, ap, _∙_}
 use mathlib.Core.List.{List}
 use Prim.Native.Nat.{ℕ, _+_, _*_, _≤_, _<_, _-_}
-use native.Mathlib.Nat.{sub-zero}
 use native.Mathlib.Omega.{arith}
 use borrow.Author.Needs.{needs}
-use lib.ListN.{length, getD, take, set, length-take}
+use lib.ListN.{length, getD, set, length-take, length-drop}
+use lib.Seq.{slice}
 use Rattle.area.specs.Areas.{put}
 use Rattle.facts.specs.Facts.{order-in, jobs-in}
+use Rattle.decomposing.proofs.LentParts.{middle-part}
 use Rattle.refining.proofs.NewHalf.{Growing, lent-within, lent-printed, job-small, few}
 use Rattle.refining.proofs.NewHalf.{growing-first, growing-settling, growing-settled, growing-asks, growing-same, growing-more, growing-last}
 use Rattle.refining.proofs.new_rows.Statement.{statement}
@@ -160,7 +161,7 @@ loop-again-2 c =
       n .ensures .size,
       growing-same (a .rules .now) (a .sums .now) (a .next .now) (a .facts .now) (a .old .now) (a .new .now) (a .moved .now) (a .area .now)
           (s .pre) (v .new) (v .stale) (v .moved) (v .area) (v .place) (v .inv .2) (place-below (p .before)) (p .job-at .result)
-          (p .job-at .ensures) out (n .result) (r .result) (512 * p .job-at .result + r .result) (n .ensures) (r .ensures .is) refl
+          (p .job-at .ensures) out (n .result .from) (n .result .to) (r .result) (512 * p .job-at .result + r .result) (n .ensures) (r .ensures .is) refl
           (c .before .same-row .ensures .yes (c .if2 .taken)),
     )
 
@@ -185,7 +186,12 @@ put-requires : tie.Need-put-requires Inv-loop μ-loop
 put-requires c κs =
     let n = c .before .before .before .before .before .before .before .before .before .before .before in
     let p = n .before .before .before .before .before .before .before .before .before .before in
-    simp length-take (omega (arith, p .before .before .loop .inv .2 .size, n .new-row .ensures .short, n .new-row .ensures .size, job-few p))
+    simp (length-take, length-drop) (omega (arith, p .before .before .loop .inv .2 .size, n .new-row .ensures .short, n .new-row .ensures .size, job-few p))
+
+sub-new : tie.Need-sub-new Inv-loop μ-loop
+sub-new c =
+    let n = c .before .before .before .before .before .before .before .before .before .before .before .before .before .before .new-row in
+    omega (arith, n .ensures .some)
 
 cast-new : tie.Need-cast-new Inv-loop μ-loop
 cast-new c =
@@ -235,22 +241,24 @@ loop-again-3 c =
     let a = s .args in
     let j = getD (order-in (a .facts .now)) (v .place) 0 in
     let area = q .last .0 in
-    let wrote : area ≡ put (12288 + 512 * j) (take (n .result) out) (v .area) =
+    let from = n .result .from in
+    let to = n .result .to in
+    let wrote : area ≡ put (12288 + 512 * j) (slice from to out) (v .area) =
     q .ensures .output
-    ∙ ap (λ (m : ℕ). put (12288 + 512 * y .result) (take m out) (v .area)) (sub-zero (n .result))
-    ∙ ap (λ (i : ℕ). put (12288 + 512 * i) (take (n .result) out) (v .area)) (y .ensures) in (
+    ∙ ap (λ (l : List ℕ). put (12288 + 512 * y .result) l (v .area)) (middle-part out from to (omega (arith, n .ensures .some)))
+    ∙ ap (λ (i : ℕ). put (12288 + 512 * i) (slice from to out) (v .area)) (y .ensures) in (
       omega (arith, p .before .loop-test .taken),
       n .ensures .size,
       subst
-          (λ (i : ℕ). Growing (a .rules .now) (a .facts .now) (a .old .now) (a .area .now) (a .moved .now) (set (v .new) i (n .result))
+          (λ (i : ℕ). Growing (a .rules .now) (a .facts .now) (a .old .now) (a .area .now) (a .moved .now) (set (v .new) i (to - from))
           (set (v .stale) i 1) (set (v .moved) i 1) area (v .place + 1))
           (sym (y .ensures))
           (subst
-          (λ (l : List ℕ). Growing (a .rules .now) (a .facts .now) (a .old .now) (a .area .now) (a .moved .now) (set (v .new) j (n .result))
+          (λ (l : List ℕ). Growing (a .rules .now) (a .facts .now) (a .old .now) (a .area .now) (a .moved .now) (set (v .new) j (to - from))
           (set (v .stale) j 1) (set (v .moved) j 1) l (v .place + 1))
           (sym wrote)
           (growing-more (a .rules .now) (a .sums .now) (a .next .now) (a .facts .now) (a .old .now) (a .new .now) (a .moved .now)
-          (a .area .now) (s .pre) (v .new) (v .stale) (v .moved) (v .area) (v .place) (v .inv .2) out (n .result) (place-below (p .before))
+          (a .area .now) (s .pre) (v .new) (v .stale) (v .moved) (v .area) (v .place) (v .inv .2) out from to (place-below (p .before))
           (n .ensures))),
     )
 
@@ -303,6 +311,7 @@ new-rows-spec =
     (λ c. search needs)  -- part-put-start
     part-put-end
     put-requires
+    sub-new
     cast-new
     mul-new
     element-write-new

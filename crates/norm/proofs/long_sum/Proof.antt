@@ -1,4 +1,4 @@
--- `norm::capped_sum` meets its contract. The loop's invariant: the numbers passed are counted, and they are few. Assumes nothing.
+-- `norm::long_sum` meets its contract. The loop's invariant: the numbers passed are counted, and they are few. Assumes nothing.
 use mathlib.Core.Path.{_≡_}
 use Prim.Native.Nat.{_+_, _-_, _≤_}
 use native.Mathlib.Omega.{arith}
@@ -6,8 +6,8 @@ use lib.ListN.{length, drop}
 use Rattle.bpa.specs.Norms.{sum-of}
 use Rattle.bpa.proofs.Basics.JobsBelow.{below-at}
 use Rattle.bpa.proofs.Basics.Plans.{sum-at, sum-end}
-use Rattle.norm.proofs.capped_sum.Statement.{statement}
-use Rattle.norm.proofs.capped_sum.Tie as tie
+use Rattle.norm.proofs.long_sum.Statement.{statement}
+use Rattle.norm.proofs.long_sum.Tie as tie
 
 abbrev Inv-loop : tie.InvT-loop
 Inv-loop numbers plan sum₀ k₀ sum k = (k ≤ length plan) × (sum ≤ 4096) × (sum + sum-of numbers (drop k plan) ≡ sum-of numbers plan)
@@ -61,8 +61,8 @@ returns-2 c =
     let e = sum-end (s .args .numbers .now) (s .args .plan .now) (at-loop .loop .k) (c .loop-test .left) in
     omega (arith, at-loop .loop .inv)
 
-pub capped-sum-spec : {M : Type 1} → statement M
-capped-sum-spec =
+pub long-sum-spec : {M : Type 1} → statement M
+long-sum-spec =
     tie.close
     (tie.spec
     Inv-loop
