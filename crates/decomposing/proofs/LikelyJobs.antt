@@ -1,10 +1,13 @@
 -- Jobs that may decompose another: what the test decides, and that a job which does decompose another passes it. Assumes nothing.
 use mathlib.Core.Path.{_≡_, sym, subst, _∙_}
-use mathlib.Core.Bool.{Bool, false, true≢false}
+use mathlib.Core.Bool.{Bool, true, false, true≢false}
 use mathlib.Core.List.{List, [], _∷_}
 use Prim.Native.Nat.{ℕ, _+_, _*_, _<_}
+use lib.Dec.{eqb}
 use lib.ListN.{getD}
+use borrow.Author.Tests.{eqb-true, eq-eqb}
 use Rattle.bpa.specs.Method.{Rows}
+use Rattle.bpa.proofs.Basics.Cases.{never-both}
 use Rattle.decompositions.specs.Decompositions.{Decomposes}
 use Rattle.decompositions.proofs.NewRows.{decomposes-same-steps}
 use Rattle.rows.specs.Region.{row, Within, old-half}
@@ -15,32 +18,30 @@ use Rattle.decomposing.specs.Candidates.{Likely}
 use Rattle.decomposing.proofs.JobsOfTable.{job-below}
 use Rattle.decomposing.proofs.RowEnds.{same-front}
 
--- the marks are compared first
-module _ (facts area : List ℕ) (y x mine other : ℕ) (mine-is : mine ≡ getD facts (24 + y) 0) (other-is : other ≡ getD facts (24 + x) 0) where
-  pub same-mark-decides : (new region half : List ℕ) (answer : Bool) → getD area (512 * y) 0 ≡ getD area (512 * x) 0 → mine ≡ other → region ≡ half →
-      Decides answer (row new region x ≡ x ∷ []) → Decides answer (Likely facts area (row new half) y x)
-  same-mark-decides new region half answer front same is h = record {
+-- THE TEST: whether the job is prime, then the first jobs of the old rows, then the marks
+module _ (facts area new region half : List ℕ) (is : region ≡ half) (y x : ℕ) (prime : Bool) (told : Decides prime (row new region x ≡ x ∷ [])) where
+  abbrev May : Type 0
+  May = Likely facts area (row new half) y x
+
+  pub not-prime : prime ≡ false → Decides false May
+  not-prime no-prime = record {
+    yes = λ a. absurd (true≢false (sym a));
+    no = λ l. absurd (never-both prime (told .no (subst (λ (r : List ℕ). row new r x ≡ x ∷ []) (sym is) (l .prime))) no-prime);
+  }
+
+  pub other-front : (getD area (512 * y) 0 ≡ getD area (512 * x) 0 → ⊥) → Decides false May
+  other-front differ = record { yes = λ a. absurd (true≢false (sym a)); no = λ l. absurd (differ (l .front)) }
+
+  pub by-marks : prime ≡ true → getD area (512 * y) 0 ≡ getD area (512 * x) 0 → (mine other : ℕ) → mine ≡ getD facts (24 + y) 0 →
+      other ≡ getD facts (24 + x) 0 → Decides (eqb mine other) May
+  by-marks is-prime front mine other mine-is other-is = record {
     yes = λ a. record {
       front = front;
-      mark = sym mine-is ∙ same ∙ other-is;
-      prime = subst (λ (l : List ℕ). row new l x ≡ x ∷ []) is (h .yes a);
+      mark = sym mine-is ∙ eqb-true mine other a ∙ other-is;
+      prime = subst (λ (l : List ℕ). row new l x ≡ x ∷ []) is (told .yes is-prime);
     };
-    no = λ l. h .no (subst (λ (r : List ℕ). row new r x ≡ x ∷ []) (sym is) (l .prime));
+    no = λ l. eq-eqb mine other (mine-is ∙ l .mark ∙ sym other-is);
   }
-
-  pub other-mark-decides : (e : Rows) → (mine ≡ other → ⊥) → Decides false (Likely facts area e y x)
-  other-mark-decides e differ = record {
-    yes = λ a. absurd (true≢false (sym a));
-    no = λ l. absurd (differ (mine-is ∙ l .mark ∙ sym other-is));
-  }
-
--- before them the first jobs of the old rows
-pub other-front-decides : (facts area : List ℕ) (e : Rows) (y x : ℕ) → (getD area (512 * y) 0 ≡ getD area (512 * x) 0 → ⊥) →
-    Decides false (Likely facts area e y x)
-other-front-decides facts area e y x differ = record {
-  yes = λ a. absurd (true≢false (sym a));
-  no = λ l. absurd (differ (l .front));
-}
 
 -- a job that decomposes another may do so
 pub decomposes-likely : (rs sums next facts old area : List ℕ) (e : Rows) (y x : ℕ) (tail : List ℕ) → Tables rs sums next facts →

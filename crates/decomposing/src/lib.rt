@@ -32,11 +32,11 @@ fn likely(facts: &[u64; 121], new: &[u16; 24], area: &[u8], y: usize, x: usize) 
     requires { ⌜ (y < 24) × (x < 24) × (length (now area) ≡ 24576) ⌝ }
     ensures { λ r. ⌜ Decides r (Likely (now (facts .entry)) (now (area .entry)) (row (now (new .entry)) (new-half (now (area .entry)))) y x) ⌝ }
 {
-    if area[512 * y] != area[512 * x] {
-        return false;
-    }
-    if mark_of(facts, y) == mark_of(facts, x) {
-        return rows::alone(&area[12288..24576], new, x);
+    if rows::alone(&area[12288..24576], new, x) {
+        if area[512 * y] != area[512 * x] {
+            return false;
+        }
+        return mark_of(facts, y) == mark_of(facts, x);
     }
     false
 }
