@@ -1,7 +1,7 @@
 -- From good norms to the prime rows, and from these to the answers. Assumes nothing.
 use mathlib.Core.Path.{_≡_, sym, ap, _∙_, subst}
 use mathlib.Core.Bool.{Bool, true}
-use mathlib.Core.List.{List, [], _++_, append-nil}
+use mathlib.Core.List.{List}
 use Prim.Native.Nat.{ℕ, _+_, _≤_, _<_, min}
 use native.Mathlib.Omega.{arith}
 use lib.IntN.{ℤ, pos, negsuc}
@@ -89,14 +89,14 @@ module _ (n : ℕ) (rs ns lens region : List ℕ) (r : PrimeRows (table-of n rs)
   unfolding table-of
   rows-within = r .within
 
-  -- two plans compared by them, with nothing behind the second
+  -- two plans compared by them
   module _ (p q : List ℕ) (o : all-below n p ≡ true) (u : all-below n q ≡ true) where
     pub rows-comparable : Comparable lens region p q
     rows-comparable = record { jobs = n; within = rows-within; left = o; right = u }
 
-    pub rows-tell : (a : Bool) → Tells a (expand (row lens region) p) (expand (row lens region) q ++ []) → a ≡ same (table-of n rs) p q
+    pub rows-tell : (a : Bool) → Tells a (expand (row lens region) p) (expand (row lens region) q) → a ≡ same (table-of n rs) p q
     unfolding table-of over
-    rows-tell a s = r .told a p q o u (rw append-nil at s)
+    rows-tell a s = r .told a p q o u s
 
   module _ (p : List ℕ) (o : all-below n p ≡ true) where
     pub readable : Readable lens region p

@@ -1,8 +1,8 @@
 // From a list of rules and the norms of its jobs to the prime rows, and the answers that they give about plans.
 // The area that is worked in has two halves, of 24 rows of 512 bytes each: decompositions are refined from one to the other, and the
 // prime rows are left in the first.
+use comparing::same_plans;
 use facts::facts_of;
-use form::same_forms;
 use norm::capped_sum;
 use prepare::row_norms;
 use refining::refine;
@@ -38,7 +38,7 @@ pub fn prime_rows(
     *lens = refine(rules, &facts, &sums, &next, area);
 }
 
-// Whether two plans are the same. The prime rows are worked out in the area.
+// Whether two plans are the same. The prime rows are worked out in the area, and the plans are compared in it.
 pub fn same(
     jobs: usize,
     rules: &[u8],
@@ -50,12 +50,13 @@ pub fn same(
     requires { ⌜ GoodNorms jobs (now rules) (now norms) ⌝ }
     requires { ⌜ all-below jobs (now left) ≡ true ⌝ }
     requires { ⌜ all-below jobs (now right) ≡ true ⌝ }
+    requires { ⌜ sum-of (now norms) (now right) ≤ 4096 ⌝ }
     requires { ⌜ length (now area) ≡ 24576 ⌝ }
     ensures { λ r. ⌜ r ≡ method.same (table-of jobs (now (rules .entry))) (now (left .entry)) (now (right .entry)) ⌝ }
 {
     let mut lens = [0u16; 24];
     prime_rows(jobs, rules, norms, &mut lens, area);
-    same_forms(&area[0..12288], &lens, left, right, &right[0..0])
+    same_plans(area, &lens, left, right)
 }
 
 // The prime form of a plan, one byte a job, or refusal 10 with the output left as it was.

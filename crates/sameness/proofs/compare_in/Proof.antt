@@ -81,7 +81,7 @@ same-requires : tie.Need-same-requires
 same-requires c κs =
     let e = c .before .before .before .before .before .before in
     let (k, m) = ready (e .before) (e .if1 .left) in
-    (rw (c .before .before .rules-of .ensures) (k .good), (k .within, (m .within, simp length-take (omega (arith, passed (e .before) (e .if1 .left) .0)))))
+    (rw (c .before .before .rules-of .ensures) (k .good), (k .within, (m .within, (m .sum-small, simp length-take (omega (arith, passed (e .before) (e .if1 .left) .0))))))
 
 pub compare-in-spec : {M : Type 1} → statement M
 compare-in-spec =
