@@ -96,6 +96,8 @@ pub fn hostile(rng: &mut Rng) -> Vec<Input> {
         ("17 copies of a job with 194 equal rules", Made::of_table(equal_rules())),
         ("14 copies of a job, a row in 85 writings", Made::of_table(many_writings())),
         ("chain, 2 jobs with 101 equal rules", Made::of_table(chain_of_equal_rules())),
+        ("chain, 2 rows in 105 writings each", Made::of_table(chain_of_writings())),
+        ("chain, 2 long rows, equal fingerprints", Made::of_table(chain_of_equal_fingerprints())),
     ];
     let mut inputs = Vec::new();
     for (name, made) in made {
@@ -126,6 +128,40 @@ fn chain_of_equal_rules() -> Table {
         rules.extend(vec![rule(job, 98, &[often]); 101]);
         rules.push(rule(job, 98, &[once]));
     }
+    Table { jobs: 24, rules }
+}
+
+/// Two bisimilar jobs with 105 writings of one row, by five copies of a job, and then one of another row; the other way round.
+fn each_way(jobs: [u8; 2], copy: u8, rows: [fn([u8; 3]) -> [u8; 4]; 2]) -> Vec<Rule> {
+    let mut rules = Vec::new();
+    for (job, often, once) in [(jobs[0], rows[0], rows[1]), (jobs[1], rows[1], rows[0])] {
+        rules.push(rule(job, 101, &[]));
+        rules.extend((0..105).map(|n| rule(job, 101, &often([n / 25, n / 5 % 5, n % 5].map(|i| copy + i)))));
+        rules.push(rule(job, 101, &once([copy; 3])));
+    }
+    rules
+}
+
+/// Like the chain of equal rules, but no rule twice. The two rows differ at the last of 49 places, and the powers in them lie one
+/// place apart, so that each comparison is of seven short runs.
+fn chain_of_writings() -> Table {
+    let mut rules = chain(0).rules;
+    rules.retain(|r| r.job < 16);
+    rules.push(rule(16, 97, &[0; 4]));
+    rules.extend((17..22).map(|k| rule(k, 97, &[16; 3])));
+    rules.extend(each_way([23, 22], 17, [|[i, j, k]| [i, j, k, 15], |[i, j, k]| [0, i, j, k]]));
+    Table { jobs: 24, rules }
+}
+
+/// The same with rows of 1,036 places that end with one or the other of two words (jobs 5 and 6) with the same fingerprint.
+fn chain_of_equal_fingerprints() -> Table {
+    let mut rules = vec![rule(0, 97, &[]), rule(1, 97, &[10, 10, 2, 8]), rule(3, 97, &[1; 4]), rule(4, 97, &[3; 4])];
+    rules.extend([rule(5, 97, &[1, 1, 8, 8]), rule(6, 97, &[0, 1, 0, 1])]);
+    rules.extend((11..16).map(|k| rule(k, 97, &[4; 4])));
+    let chain = [0, 2, 8, 10, 16, 17, 18, 19, 20, 21, 22, 23];
+    rules.extend(chain.windows(2).flat_map(|w| [rule(w[1], 97, &[]), rule(w[1], 98, &w[..1])]));
+    rules.extend([7, 9].map(|k| rule(k, 102, &[23])));
+    rules.extend(each_way([9, 7], 11, [|[i, j, k]| [i, j, k, 5], |[i, j, k]| [i, j, k, 6]]));
     Table { jobs: 24, rules }
 }
 

@@ -1,5 +1,5 @@
 //! The base of pairs, refined by rounds until one drops nothing, and the prime rows that it gives.
-use crate::index::Index;
+use crate::index::{Index, NO_RULE};
 use crate::judge::Judge;
 use crate::region::{split, Rows, ROW};
 use crate::table::{Table, JOBS, RULES};
@@ -12,16 +12,16 @@ pub fn prime_form(image: &[u8], plan: &[u8], out: &mut [u8], space: &mut [u8]) -
     crate::prime_form(image, plan, out, space, prime_rows)
 }
 
-fn prime_rows<'a>(table: &Table, norms: &[u16; JOBS], space: &'a mut [u8]) -> Rows<'a> {
+/// The prime rows, and an area that is free then.
+fn prime_rows<'a>(table: &Table, norms: &[u16; JOBS], space: &'a mut [u8]) -> (Rows<'a>, &'a mut [u8]) {
     let mut engine = Engine::new(table, norms, space);
     engine.first_base();
     while engine.round() {}
     engine.prime_rows();
-    engine.forms
+    (engine.forms, engine.failed)
 }
 
 const FAILED: usize = RULES * 32;
-const NO_RULE: u8 = u8::MAX;
 
 impl Index<'_> {
     /// Writes the candidate of a pair at the end of an area: the plan that y reaches by norm-of-x steps, each lowering
@@ -79,7 +79,7 @@ impl<'t, 'a> Engine<'t, 'a> {
         failed.fill(0);
         witness.fill(NO_RULE);
         Engine {
-            index: Index::new(table, norms),
+            index: Index::new(table, norms, &[true; RULES]),
             judge: Judge::new(judge),
             forms: Rows::new(forms),
             remainder,

@@ -85,25 +85,25 @@ pub fn nth_move(image: &[u8], plan: &[u8], index: u32, out: &mut [u8]) -> i32 {
 /// Whether two plans are the same by the prime rows that a method finds.
 fn compare<F>(image: &[u8], left: &[u8], right: &[u8], space: &mut [u8], prime_rows: F) -> i32
 where
-    F: for<'a> FnOnce(&Table, &[u16; JOBS], &'a mut [u8]) -> Rows<'a>,
+    F: for<'a> FnOnce(&Table, &[u16; JOBS], &'a mut [u8]) -> (Rows<'a>, &'a mut [u8]),
 {
     in_workspace(space, |space| {
         let (table, norms) = checked(image)?;
         plan_refusal(&norms, table.jobs, &[left, right])?;
-        let rows = prime_rows(&table, &norms, space);
-        Ok(rows.equal(left, right, &[], &mut ()) as i32)
+        let (rows, area) = prime_rows(&table, &norms, space);
+        Ok(rows.same(left, right, area) as i32)
     })
 }
 
 /// The prime form of a plan by the prime rows that a method finds.
 fn prime_form<F>(image: &[u8], plan: &[u8], out: &mut [u8], space: &mut [u8], prime_rows: F) -> i32
 where
-    F: for<'a> FnOnce(&Table, &[u16; JOBS], &'a mut [u8]) -> Rows<'a>,
+    F: for<'a> FnOnce(&Table, &[u16; JOBS], &'a mut [u8]) -> (Rows<'a>, &'a mut [u8]),
 {
     in_workspace(space, |space| {
         let (table, norms) = checked(image)?;
         plan_refusal(&norms, table.jobs, &[plan])?;
-        let rows = prime_rows(&table, &norms, space);
+        let (rows, _) = prime_rows(&table, &norms, space);
         let out = output(out, rows.expanded_len(plan))?;
         Ok(rows.expand(plan, out) as i32)
     })

@@ -51,7 +51,7 @@ pub fn table_refusal(norms: &[u16; JOBS], jobs: usize) -> Answer<()> {
 
 /// Refusals 8 and 9, each over all plans before the next.
 pub fn plan_refusal(norms: &[u16; JOBS], jobs: usize, plans: &[&[u8]]) -> Answer<()> {
-    if plans.iter().any(|p| p.iter().any(|&j| j as usize >= jobs)) {
+    if plans.iter().any(|p| !all_below(jobs as u8, p)) {
         return Err(8);
     }
     if plans.iter().any(|p| plan_norm_of(norms, p) > PLAN_MOST) {
@@ -60,16 +60,17 @@ pub fn plan_refusal(norms: &[u16; JOBS], jobs: usize, plans: &[&[u8]]) -> Answer
     Ok(())
 }
 
+/// Whether all jobs of a plan are below a count. It has no early end, so that many are looked at at once.
+fn all_below(jobs: u8, plan: &[u8]) -> bool {
+    plan.iter().fold(true, |below, &j| below & (j < jobs))
+}
+
 /// The norm of a plan, or some number above 4,096.
 pub fn plan_norm_of(norms: &[u16; JOBS], plan: &[u8]) -> usize {
-    let mut sum = 0;
-    for &j in plan {
-        sum += norms[j as usize] as usize;
-        if sum > PLAN_MOST {
-            break;
-        }
+    if plan.len() > PLAN_MOST {
+        return plan.len(); // each norm is at least 1
     }
-    sum
+    plan.iter().map(|&j| norms[j as usize] as usize).sum()
 }
 
 /// The norm of the jobs after each rule.

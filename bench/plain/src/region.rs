@@ -5,6 +5,9 @@ use core::mem::take;
 
 pub const ROW: usize = 512;
 
+/// So many places are written or compared at once.
+const MANY: usize = 16;
+
 /// The bytes of the rows of all jobs.
 pub type Region = [u8; ROW * JOBS];
 
@@ -25,6 +28,10 @@ impl<'a> Rows<'a> {
             bytes[ROW * j] = j as u8;
         }
         Rows { bytes, lens: [1; JOBS] }
+    }
+
+    pub fn into_area(self) -> &'a mut [u8] {
+        self.bytes
     }
 
     pub fn of(&self, job: u8) -> &[u8] {
@@ -58,15 +65,35 @@ impl<'a> Rows<'a> {
         plan.iter().map(|&j| self.len(j)).sum()
     }
 
-    /// Writes the expansion of a plan from the start of an area; its length.
+    /// Writes the expansion of a plan from the start of an area; its length. A row of up to 16 places is written as 16 if
+    /// there is room, and the next one over what is too much.
     pub fn expand(&self, plan: &[u8], area: &mut [u8]) -> usize {
         let mut at = 0;
         for &j in plan {
-            let row = self.of(j);
-            area[at..at + row.len()].copy_from_slice(row);
-            at += row.len();
+            let (from, len) = (ROW * j as usize, self.len(j));
+            match area[at..].first_chunk_mut::<MANY>() {
+                Some(to) if len <= MANY => to.copy_from_slice(&self.bytes[from..from + MANY]),
+                _ => area[at..at + len].copy_from_slice(&self.bytes[from..from + len]),
+            }
+            at += len;
         }
         at
+    }
+
+    /// Whether two plans are the same by the rows. The right one is written into an area, but for what both begin with.
+    pub fn same(&self, left: &[u8], right: &[u8], area: &mut [u8]) -> bool {
+        let start = common_start(left, right);
+        let len = self.expand(&right[start..], area);
+        let mut rest = &area[..len];
+        for &j in &left[start..] {
+            let row = self.of(j);
+            let Some((part, behind)) = rest.split_at_checked(row.len()) else { return false };
+            if !same(row, part) {
+                return false;
+            }
+            rest = behind;
+        }
+        rest.is_empty()
     }
 
     /// Whether two plans are equal by the rows, a row that is already written out behind the right one. The same job at
@@ -96,9 +123,16 @@ impl<'a> Rows<'a> {
     }
 }
 
+/// How many places two plans have in common from their start.
+fn common_start(left: &[u8], right: &[u8]) -> usize {
+    let many = left.as_chunks::<MANY>().0.iter().zip(right.as_chunks::<MANY>().0);
+    let start = MANY * many.take_while(|(l, r)| l == r).count();
+    start + left[start..].iter().zip(&right[start..]).take_while(|(l, r)| l == r).count()
+}
+
 /// Whether two rows of one length are equal: short ones place by place, for which a call would cost more.
 fn same(left: &[u8], right: &[u8]) -> bool {
-    if left.len() < 16 {
+    if left.len() < MANY {
         return left.iter().zip(right).all(|(x, y)| x == y);
     }
     left == right

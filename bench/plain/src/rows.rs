@@ -1,6 +1,6 @@
 //! Decompositions: a row of jobs for each job, refined by rounds until no prime is new. The choices of speed are the
 //! library's.
-use crate::index::Index;
+use crate::index::{first_written, Index};
 use crate::region::{split, Rows, ROW};
 use crate::steps::Meter;
 use crate::table::{Table, JOBS};
@@ -18,12 +18,13 @@ pub fn prime_form(image: &[u8], plan: &[u8], out: &mut [u8], space: &mut [u8]) -
     crate::prime_form(image, plan, out, space, |table, norms, space| prime_rows(table, norms, space, &mut ()))
 }
 
-fn prime_rows<'a, M: Meter>(table: &Table, norms: &[u16; JOBS], space: &'a mut [u8], meter: &mut M) -> Rows<'a> {
+/// The prime rows, and an area that is free then.
+fn prime_rows<'a, M: Meter>(table: &Table, norms: &[u16; JOBS], space: &'a mut [u8], meter: &mut M) -> (Rows<'a>, &'a mut [u8]) {
     let mut engine = Engine::new(table, norms, space);
     while engine.round(meter) {
         engine.keep();
     }
-    engine.old
+    (engine.old, engine.new.into_area())
 }
 
 /// A fingerprint of a row, as Karp and Rabin's, and the power of the base by which it moves what stands in front.
@@ -79,7 +80,7 @@ impl<'t, 'a> Engine<'t, 'a> {
     fn new(table: &'t Table, norms: &'t [u16; JOBS], space: &'a mut [u8]) -> Engine<'t, 'a> {
         let (old, space) = split(space);
         let (new, _) = split(space);
-        let index = Index::new(table, norms);
+        let index = Index::new(table, norms, &first_written(table));
         let (mut old, mut new) = (Rows::new(old), Rows::new(new));
         for j in 0..table.jobs {
             old.fill(j as u8, index.order[0], norms[j]);

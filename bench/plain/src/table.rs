@@ -27,6 +27,11 @@ impl Table {
         &self.bytes[..self.count * RULE]
     }
 
+    /// The 8 bytes of a rule as one number.
+    pub fn place(&self, r: usize) -> u64 {
+        u64::from_le_bytes(self.bytes.as_chunks().0[r])
+    }
+
     pub fn job(&self, r: usize) -> usize {
         self.bytes[r * RULE] as usize
     }
