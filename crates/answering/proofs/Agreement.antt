@@ -3,7 +3,7 @@
 use mathlib.Core.Path.{_≡_, refl, sym, ap, _∙_, subst}
 use mathlib.Core.Bool.{Bool, true, false, true≢false}
 use mathlib.Core.List.{List, [], _∷_, _++_, append-nil}
-use Prim.Native.Nat.{ℕ, _+_, _<_}
+use Prim.Native.Nat.{ℕ, _+_, _-_, _<_}
 use native.Mathlib.Omega.{arith}
 use lib.Dec.{ltb}
 use lib.ListN.{length, getD}
@@ -18,34 +18,19 @@ use Rattle.rules.specs.Lists.{GoodList}
 use Rattle.rows.specs.Region.{Within, Comparable}
 use Rattle.rows.specs.Answers.{Decides}
 use Rattle.form.specs.Written.{Tells}
-use Rattle.fingerprints.specs.Fingerprints.{join, value-from, Printable}
-use Rattle.answering.specs.Agreeing.{Same-print, Printing, MayAgree, Left-equal, OldPair}
+use Rattle.fingerprints.specs.Fingerprints.{join, value-from, RulePrint}
+use Rattle.answering.specs.Agreeing.{Same-print, MayAgree, Left-equal, OldPair}
 
 -- what is denied is answered by no
 pub denied : (A : Type 0) → (A → ⊥) → Decides false A
 denied A n = record { yes = λ h. absurd (true≢false (sym h)); no = λ a. absurd (n a) }
 
--- the jobs after a rule have fingerprints
-pub after-printable : (rs prints : List ℕ) (gap value power : ℕ) → Printing rs prints gap value power → (i : ℕ) (l : List ℕ) →
-    i < rule-count rs → l ≡ rule-at rs i .after → Printable prints l
-after-printable rs prints gap value power c i l h e =
-    subst (Printable prints) (sym e)
-    (record {
-      job = λ k b. omega (arith, below k b, c .list .jobs);
-      value = λ k b. c .prints-small (getD (rule-at rs i .after) k 0) (below k b) .0;
-      power = λ k b. c .prints-small (getD (rule-at rs i .after) k 0) (below k b) .1;
-    })
-  where
-    below : (k : ℕ) → k < length (rule-at rs i .after) → getD (rule-at rs i .after) k 0 < c .jobs
-    below k b = below-at (c .jobs) (rule-at rs i .after) k (good-rule (c .jobs) rs (c .list) i h .after) b
-
--- what two rules leave has equal fingerprints, if they are what was worked out
-pub afters-same : (rs prints : List ℕ) (value power r s : ℕ) (p q : List ℕ) (a b j : ℕ) → p ≡ rule-at rs r .after → q ≡ rule-at rs s .after →
-    a ≡ value-from prints 0 p → b ≡ value-from prints 0 q → j ≡ join b power value → Same-print rs prints value power r s → a ≡ j
-afters-same rs prints value power r s p q a b j f g u v w same =
-    let left = u ∙ ap (value-from prints 0) f in
-    let right = w ∙ ap (λ (m : ℕ). join m power value) (v ∙ ap (value-from prints 0) g) in
-    left ∙ same .is ∙ sym right
+-- what two rules leave has equal fingerprints: the numbers that were looked up, which are one more, tell it
+pub numbers-same : (rs prints : List ℕ) (value power r s a b j : ℕ) → 0 < a → 0 < b → RulePrint prints (rule-at rs r .after) a →
+    RulePrint prints (rule-at rs s .after) b → j ≡ join (b - 1) power value → Same-print rs prints value power r s → a ≡ 1 + j
+numbers-same rs prints value power r s a b j ha hb pa pb e same =
+    let right : b - 1 ≡ value-from prints 0 (rule-at rs s .after) = omega (arith, pb .is hb) in
+    omega (arith, pa .is ha, same .is, e, ap (λ (n : ℕ). join n power value) right)
 
 -- WHETHER RULES MAY AGREE, by what was seen of them
 module _ (rs sums prints : List ℕ) (gap value power r s : ℕ) where

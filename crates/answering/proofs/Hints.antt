@@ -47,7 +47,7 @@ module _ (rs sums next prints old new area parts : List ℕ) (pair : Pair) (p : 
     size = p .size;
     old-within = p .old-within;
     new-within = p .new-within;
-    prints-small = p .prints-small;
+    rule-prints = p .rule-prints;
     gap-small = p .gap-small;
     value-small = p .value-small;
     power-small = p .power-small;

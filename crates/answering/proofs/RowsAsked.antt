@@ -57,7 +57,7 @@ module _ {rs sums next prints old new area parts : List ℕ} {forward : Bool} {m
   pair-printing = record {
     jobs = p .jobs;
     list = p .list;
-    prints-small = p .prints-small;
+    rule-prints = p .rule-prints;
     gap-small = p .gap-small;
     value-small = p .value-small;
     power-small = p .power-small;

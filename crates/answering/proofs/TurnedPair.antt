@@ -53,7 +53,7 @@ pairing-turned rs sums next prints old new area parts y x asks tries norm gap va
   size = p .size;
   old-within = p .old-within;
   new-within = p .new-within;
-  prints-small = p .prints-small;
+  rule-prints = p .rule-prints;
   gap-small = p .gap-small;
   value-small = p .value-small;
   power-small = p .power-small;

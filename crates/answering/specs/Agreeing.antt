@@ -13,7 +13,7 @@ use Rattle.rules.specs.Places.{rule-at, rule-count}
 use Rattle.rules.specs.Lists.{GoodList}
 use Rattle.prepare.specs.Prepared.{Chained, OnChain}
 use Rattle.rows.specs.Region.{row, Within, old-half, new-half}
-use Rattle.fingerprints.specs.Fingerprints.{modulus, join, value-from}
+use Rattle.fingerprints.specs.Fingerprints.{modulus, join, value-from, Rule-prints}
 
 -- a norm, as a wider number
 pub record IsNorm (norm r : ℕ) : Type 0 where
@@ -52,15 +52,11 @@ unfoldable pub rest-for : (falls : Bool) → (old new : List ℕ) → List ℕ
 rest-for true o n = n
 rest-for false o n = o
 
--- the fingerprints of jobs and their powers are below the modulus
-abbrev pub Prints-small : (jobs : ℕ) → (prints : List ℕ) → Type 0
-Prints-small n ps = (j : ℕ) → j < n → (getD ps j 0 < modulus) × (getD ps (24 + j) 0 < modulus)
-
 -- what the tests before a comparison ask of the rules and of the tail
 pub record Printing (rs prints : List ℕ) (gap value power : ℕ) : Type 0 where
   pub jobs : ℕ
   pub list : GoodList jobs rs
-  pub prints-small : Prints-small jobs prints
+  pub rule-prints : Rule-prints rs prints
   pub gap-small : gap ≤ 512
   pub value-small : value < modulus
   pub power-small : power < modulus
@@ -129,7 +125,7 @@ pub record Pairing (rs sums next prints old new area parts : List ℕ) (forward 
   pub size : length area ≡ 24576
   pub old-within : Within jobs old (old-half area)
   pub new-within : Within jobs new (new-half area)
-  pub prints-small : Prints-small jobs prints
+  pub rule-prints : Rule-prints rs prints
   pub gap-small : gap ≤ 512
   pub value-small : value < modulus
   pub power-small : power < modulus

@@ -2,7 +2,7 @@
 // rows if their moves are equal and what they leave is equal by the rows: by the new rows if the norm falls, else by the old ones.
 use area::wide;
 use fingerprints::joined;
-use fingerprints::plan_print;
+use fingerprints::wide_print;
 use form::same_forms;
 use rules::rule_after;
 use rules::rule_move;
@@ -56,23 +56,29 @@ fn pick(first: bool, a: usize, b: usize) -> usize
     b
 }
 
-// Whether what rule r of Y and rule s of X leave has equal fingerprints.
-fn same_print(rules: &[u8], prints: &[u64; 48], pair: Pair, r: usize, s: usize) -> bool
+// Whether what rule r of Y and rule s of X leave has equal fingerprints, or one of them has none.
+fn same_print(rules: &[u8], prints: &[u32; 300], pair: Pair, r: usize, s: usize) -> bool
     requires { ⌜ Printing (now rules) (now prints) (pair .gap) (pair .value) (pair .power) ⌝ }
     requires { ⌜ (r < rule-count (now rules)) × (s < rule-count (now rules)) ⌝ }
     ensures { λ out. ⌜ (Same-print (now (rules .entry)) (now (prints .entry)) (pair .value) (pair .power) r s → out ≡ true) ⌝ }
 {
-    let left = plan_print(prints, rule_after(rules, r));
-    let right = plan_print(prints, rule_after(rules, s));
-    left.value == joined(right.value, pair.power, pair.value)
+    let left = wide_print(prints[48 + r]);
+    let right = wide_print(prints[48 + s]);
+    if left == 0 {
+        return true;
+    }
+    if right == 0 {
+        return true;
+    }
+    left == 1 + joined(right - 1, pair.power, pair.value)
 }
 
-// Whether rule r of Y and rule s of X may agree: their moves are equal, and what they leave has equal norms, and equal fingerprints if it
-// may be long. It is not expanded for that.
+// Whether rule r of Y and rule s of X may agree: their moves are equal, and what they leave has equal norms and no unequal fingerprints. It
+// is not expanded for that.
 fn may_agree(
     rules: &[u8],
     sums: &[u16; 252],
-    prints: &[u64; 48],
+    prints: &[u32; 300],
     pair: Pair,
     r: usize,
     s: usize,
@@ -87,9 +93,6 @@ fn may_agree(
     let gap = pair.gap;
     if wide_norm(sums[r]) != wide_norm(sums[s]) + gap {
         return false;
-    }
-    if wide_norm(sums[r]) < 64 {
-        return true;
     }
     same_print(rules, prints, pair, r, s)
 }
@@ -124,7 +127,7 @@ fn left_equal(
 fn agrees(
     rules: &[u8],
     sums: &[u16; 252],
-    prints: &[u64; 48],
+    prints: &[u32; 300],
     old: &[u16; 24],
     new: &[u16; 24],
     area: &[u8],
@@ -185,7 +188,7 @@ fn answer_to(
     rules: &[u8],
     sums: &[u16; 252],
     next: &[u8; 252],
-    prints: &[u64; 48],
+    prints: &[u32; 300],
     old: &[u16; 24],
     new: &[u16; 24],
     area: &[u8],
@@ -217,7 +220,7 @@ fn all_answered(
     rules: &[u8],
     sums: &[u16; 252],
     next: &[u8; 252],
-    prints: &[u64; 48],
+    prints: &[u32; 300],
     old: &[u16; 24],
     new: &[u16; 24],
     area: &[u8],
@@ -250,13 +253,19 @@ fn all_answered(
 }
 
 // Whether Y, and X with its tail, are equal by the old rows. Unequal fingerprints tell it without a look at the rows.
-fn equal_by_old(prints: &[u64; 48], rows: &[u8], lens: &[u16; 24], parts: &[u8], pair: Pair) -> bool
+fn equal_by_old(
+    prints: &[u32; 300],
+    rows: &[u8],
+    lens: &[u16; 24],
+    parts: &[u8],
+    pair: Pair,
+) -> bool
     requires { ⌜ OldPair (now prints) (now lens) (now rows) (now parts) (pair .mine) (pair .other) (pair .value) (pair .power) ⌝ }
     ensures { λ out. ⌜ Decides out (row (now (lens .entry)) (now (rows .entry)) (pair .mine) ≡ expand (row (now (lens .entry)) (now (rows .entry))) (now (parts .entry))) ⌝ }
 {
     let y = pair.mine;
     let x = pair.other;
-    if prints[y] != joined(prints[x], pair.power, pair.value) {
+    if wide_print(prints[y]) != joined(wide_print(prints[x]), pair.power, pair.value) {
         return false;
     }
     let left = [y as u8; 1];
@@ -268,7 +277,7 @@ pub fn fits(
     rules: &[u8],
     sums: &[u16; 252],
     next: &[u8; 252],
-    prints: &[u64; 48],
+    prints: &[u32; 300],
     old: &[u16; 24],
     new: &[u16; 24],
     area: &[u8],

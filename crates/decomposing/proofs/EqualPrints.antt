@@ -15,17 +15,17 @@ use Rattle.decompositions.proofs.NewRows.{expand-through, refined-through}
 use Rattle.rules.specs.Places.{rule-at, rule-count}
 use Rattle.rules.proofs.ListLaws.{good-rule}
 use Rattle.rows.specs.Region.{row, old-half, new-half}
-use Rattle.fingerprints.specs.Fingerprints.{join, value-from, power-from, Printed}
+use Rattle.fingerprints.specs.Fingerprints.{modulus, join, value-from, power-from, Printed}
 use Rattle.fingerprints.proofs.Prints.{mod-small, equal-values, equal-rows-values}
 use Rattle.facts.specs.Facts.{norms-in, jobs-in, table-by}
 use Rattle.facts.proofs.Lookups.{row-norm}
-use Rattle.answering.specs.Agreeing.{Agree, Same-print, Prints-small, rows-for, rest-for}
+use Rattle.answering.specs.Agreeing.{Agree, Same-print, rows-for, rest-for}
 use Rattle.decomposing.specs.Candidates.{Decomposable, Earlier-rows}
 use Rattle.decomposing.proofs.JobsOfTable.{job-below, over-by, over-below, lesser-plan}
 use Rattle.decomposing.proofs.RulePlaces.{by-rows}
 
-pub prints-small : (n : ℕ) (d : Rows) (prints : List ℕ) → Printed n d prints → Prints-small n prints
-prints-small n d prints w j h = (rw (w .value j h) (mod-small _), rw (w .power j h) (mod-small _))
+pub print-small : (n : ℕ) (d : Rows) (prints : List ℕ) → Printed n d prints → (j : ℕ) → j < n → getD prints j 0 < modulus
+print-small n d prints w j h = rw (w .value j h) (mod-small _)
 
 module _ (rs facts sums next prints old new area : List ℕ) (place : ℕ)
     (h : Decomposable rs facts sums next prints old new area place) (y : ℕ)

@@ -24,7 +24,7 @@ use Rattle.decomposing.specs.Candidates.{Likely, CanPair, PairOf}
 use Rattle.decomposing.proofs.JobsOfTable.{job-by, job-below, over-below}
 use Rattle.decomposing.proofs.RulePlaces.{sums-alike, match-fits, fits-match}
 use Rattle.decomposing.proofs.RowEnds.{no-longer, behind-is}
-use Rattle.decomposing.proofs.EqualPrints.{prints-small, rules-same-print, jobs-same-print}
+use Rattle.decomposing.proofs.EqualPrints.{print-small, rules-same-print, jobs-same-print}
 use Rattle.decomposing.proofs.FoundTails.{FoundTail}
 use Rattle.decomposing.proofs.Turns.{Turn, few, y-job, x-job, y-small, x-small, x-before, x-least, y-earlier}
 
@@ -89,7 +89,7 @@ module _ {rs facts sums next prints old new area : List ℕ} {place y : ℕ} {lo
       size = u .asked .size;
       old-within = u .asked .old-within;
       new-within = u .asked .new-within;
-      prints-small = prints-small (jobs-in facts) d prints (u .asked .printed);
+      rule-prints = u .asked .rule-printed;
       gap-small = omega (arith, p .gap-is, p .norm-is, u .asked .tables .small y (y-job u));
       value-small = p .value-small;
       power-small = p .power-small;
@@ -118,7 +118,7 @@ module _ {rs facts sums next prints old new area : List ℕ} {place y : ℕ} {lo
       y-job = y-job u;
       x-job = x-job u;
       parts-below = over-below facts rs (x ∷ tail) (over-cons t x tail (job-by facts rs x (x-job u)) (found .inside));
-      x-small = prints-small (jobs-in facts) d prints (u .asked .printed) x (x-job u) .0;
+      x-small = print-small (jobs-in facts) d prints (u .asked .printed) x (x-job u);
       value-small = p .value-small;
       power-small = p .power-small;
       tells =

@@ -11,7 +11,7 @@ use Rattle.bpa.specs.Method.{Rows, expand, precedes, lowering}
 use Rattle.decompositions.specs.Decompositions.{Alone, Decomposed, Decomposition, NewRow, Refined}
 use Rattle.rows.specs.Region.{row, Within, old-half, new-half}
 use Rattle.facts.specs.Facts.{norms-in, order-in, jobs-in, table-by, Tables}
-use Rattle.fingerprints.specs.Fingerprints.{modulus, value-from, power-from, Printed, Printable}
+use Rattle.fingerprints.specs.Fingerprints.{modulus, value-from, power-from, Printed, Printable, Rule-prints}
 
 -- a job that may decompose another: prime in the new rows, with an old row that begins with the same job, and the same mark
 pub record Likely (facts area : List ℕ) (e : Rows) (y x : ℕ) : Type 0 where
@@ -84,6 +84,7 @@ pub record Decomposable (rs facts sums next prints old new area : List ℕ) (pla
   pub old-within : Within (jobs-in facts) old (old-half area)
   pub new-within : Within (jobs-in facts) new (new-half area)
   pub printed : Printed (jobs-in facts) (row old (old-half area)) prints
+  pub rule-printed : Rule-prints rs prints
   pub inside : place < jobs-in facts
   pub decomposition : Decomposition (table-by facts rs) (norms-in facts) (row old (old-half area))
   pub earlier : Earlier-rows facts rs (row old (old-half area)) (row new (new-half area)) (getD (order-in facts) place 0)

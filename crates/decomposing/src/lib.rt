@@ -44,7 +44,7 @@ fn likely(facts: &[u64; 121], new: &[u16; 24], area: &[u8], y: usize, x: usize) 
 // What is asked about y and x, the first of `parts`, with its tail behind it.
 fn pair_of(
     facts: &[u64; 121],
-    prints: &[u64; 48],
+    prints: &[u32; 300],
     old: &[u16; 24],
     parts: &[u8],
     y: usize,
@@ -97,7 +97,7 @@ pub fn new_row(
     facts: &[u64; 121],
     sums: &[u16; 252],
     next: &[u8; 252],
-    prints: &[u64; 48],
+    prints: &[u32; 300],
     old: &[u16; 24],
     new: &[u16; 24],
     area: &[u8],

@@ -22,7 +22,7 @@ use Rattle.fingerprints.specs.Fingerprints.{
 use Rattle.fingerprints.proofs.Prints.{modulus-large, mod-small, number-none, power-none, joined-number, joined-power}
 
 -- ROWS
-pub modulus-is : modulus ≡ 4294967296
+pub modulus-is : modulus ≡ 4294967291
 unfolding modulus
 modulus-is = refl
 

@@ -3,3 +3,4 @@ pub mod Prints
 pub mod Joins
 pub mod Digits
 pub mod PrintedRows
+pub mod PrintedRules

@@ -2,13 +2,15 @@
 -- nothing: these are definitions.
 use mathlib.Core.Path.{_≡_}
 use mathlib.Core.List.{List, [], _∷_}
-use Prim.Native.Nat.{ℕ, suc, _+_, _*_, _%_, _^_, _<_}
+use Prim.Native.Nat.{ℕ, suc, _+_, _*_, _%_, _^_, _≤_, _<_}
 use lib.ListN.{length, getD}
 use Rattle.bpa.specs.Method.{Rows}
+use Rattle.rules.specs.Places.{rule-at, rule-count}
+use Rattle.rules.specs.Lists.{GoodList}
 
--- any base and any modulus would do; by these few unequal rows have equal fingerprints
+-- any base and any modulus would do; by a prime modulus few unequal rows have equal fingerprints, however they are made
 unfoldable pub modulus : ℕ
-modulus = 4294967296
+modulus = 4294967291
 
 unfoldable pub base : ℕ
 base = 2654435769
@@ -33,9 +35,14 @@ pub record IsPrint (row : List ℕ) (value power : ℕ) : Type 0 where
 
 -- THE FINGERPRINTS of the rows of jobs, and their powers
 pub record Printed (jobs : ℕ) (d : Rows) (prints : List ℕ) : Type 0 where
-  pub size : length prints ≡ 48
+  pub size : length prints ≡ 300
   pub value : (j : ℕ) → j < jobs → getD prints j 0 ≡ number (d j) % modulus
   pub power : (j : ℕ) → j < jobs → getD prints (24 + j) 0 ≡ base ^ length (d j) % modulus
+
+-- the same in an array that has no others yet
+pub record RowsPrinted (jobs : ℕ) (d : Rows) (prints : List ℕ) : Type 0 where
+  pub printed : Printed jobs d prints
+  pub none : (k : ℕ) → 48 ≤ k → k < 300 → getD prints k 0 ≡ 0
 
 -- by the fingerprints of jobs, that of a plan behind another whose fingerprint is given, and its power
 unfoldable pub value-from : (prints : List ℕ) → (left : ℕ) → (plan : List ℕ) → ℕ
@@ -57,3 +64,30 @@ pub record PlanPrint (prints plan : List ℕ) (value power : ℕ) : Type 0 where
   pub power-is : power ≡ power-from prints 1 plan
   pub value-small : value < modulus
   pub power-small : power < modulus
+
+-- a number for each rule, of what it leaves: its fingerprint and one more, or 0
+pub record RulePrint (prints after : List ℕ) (r : ℕ) : Type 0 where
+  pub is : 0 < r → r ≡ suc (value-from prints 0 after)
+  pub small : r ≤ modulus
+
+abbrev pub Rule-prints : (rules prints : List ℕ) → Type 0
+Rule-prints rs ps = (i : ℕ) → i < rule-count rs → RulePrint ps (rule-at rs i .after) (getD ps (48 + i) 0)
+
+-- the jobs after each rule have fingerprints, and no rule has one
+pub record CanPrint (rs prints : List ℕ) : Type 0 where
+  pub jobs : ℕ
+  pub list : GoodList jobs rs
+  pub size : length prints ≡ 300
+  pub printable : (i : ℕ) → i < rule-count rs → Printable prints (rule-at rs i .after)
+  pub none : (i : ℕ) → i < rule-count rs → getD prints (48 + i) 0 ≡ 0
+
+-- THE FINGERPRINTS OF RULES beside those of jobs, which are as they were
+pub record RulesPrinted (rs before after : List ℕ) : Type 0 where
+  pub size : length after ≡ 300
+  pub kept : (k : ℕ) → k < 48 → getD after k 0 ≡ getD before k 0
+  pub rules : Rule-prints rs after
+
+-- both
+pub record AllPrinted (rs : List ℕ) (jobs : ℕ) (d : Rows) (prints : List ℕ) : Type 0 where
+  pub jobs-printed : Printed jobs d prints
+  pub rules-printed : Rule-prints rs prints

@@ -1,8 +1,14 @@
-// Fingerprints of rows, as Karp and Rabin's: unequal ones show that two long rows are unequal, before they are looked at place by place.
+// Fingerprints of rows, as Karp and Rabin's: unequal ones show that two rows are unequal, before they are looked at place by place. Those
+// of the jobs' rows and of what the rules leave stand in one array: 24 values, 24 powers, and 252 numbers for rules, 0 for none.
 use area::wide;
+use rules::rule_after;
+use rules::rule_job;
+use rules::rule_total;
+ghost use mathlib.Core.Path.{_≡_};
 ghost use Prim.Native.Nat.{_<_};
+ghost use Rattle.rules.specs.Lists.{GoodList};
 ghost use Rattle.rows.specs.Region.{row, Within};
-ghost use Rattle.fingerprints.specs.Fingerprints.{modulus, IsJoined, IsPrint, Printed, Printable, PlanPrint};
+ghost use Rattle.fingerprints.specs.Fingerprints.{modulus, IsJoined, IsPrint, Printable, PlanPrint, CanPrint, RowsPrinted, RulesPrinted, AllPrinted};
 
 // The fingerprint of a row, and the power of the base by which it moves what stands in front.
 pub struct Print {
@@ -15,7 +21,14 @@ pub fn joined(left: u64, power: u64, right: u64) -> u64
     requires { ⌜ (left < modulus) × (power < modulus) × (right < modulus) ⌝ }
     ensures { λ r. ⌜ IsJoined left power right r ⌝ }
 {
-    (left * power + right) % 4294967296
+    (left * power + right) % 4294967291
+}
+
+// A number of the array, as a wider one.
+pub fn wide_print(print: u32) -> u64
+    ensures { λ r. ⌜ r ≡ print ⌝ }
+{
+    print as u64
 }
 
 // The fingerprint of a row.
@@ -36,26 +49,26 @@ fn row_print(row: &[u8]) -> Print
     }
 }
 
-// The fingerprints of the rows of the first jobs of a region: 24 values, then 24 powers.
-pub fn row_prints(rows: &[u8], lens: &[u16; 24], jobs: usize) -> [u64; 48]
+// The fingerprints of the rows of the first jobs of a region, and none of rules.
+fn row_prints(rows: &[u8], lens: &[u16; 24], jobs: usize) -> [u32; 300]
     requires { ⌜ Within jobs (now lens) (now rows) ⌝ }
-    ensures { λ r. ⌜ Printed jobs (row (now (lens .entry)) (now (rows .entry))) r ⌝ }
+    ensures { λ r. ⌜ RowsPrinted jobs (row (now (lens .entry)) (now (rows .entry))) r ⌝ }
 {
-    let mut out = [0u64; 48];
+    let mut out = [0u32; 300];
     let mut j = 0;
     while j < jobs {
         let start = 512 * j;
         let end = start + lens[j] as usize;
         let print = row_print(&rows[start..end]);
-        out[j] = print.value;
-        out[24 + j] = print.power;
+        out[j] = print.value as u32;
+        out[24 + j] = print.power as u32;
         j += 1;
     }
     out
 }
 
 // The fingerprint of a plan, by those of its jobs' rows.
-pub fn plan_print(prints: &[u64; 48], plan: &[u8]) -> Print
+pub fn plan_print(prints: &[u32; 300], plan: &[u8]) -> Print
     requires { ⌜ Printable (now prints) (now plan) ⌝ }
     ensures { λ r. ⌜ PlanPrint (now (prints .entry)) (now (plan .entry)) (r .value) (r .power) ⌝ }
 {
@@ -64,12 +77,51 @@ pub fn plan_print(prints: &[u64; 48], plan: &[u8]) -> Print
     let mut i = 0;
     while i < plan.len() {
         let job = wide(plan[i]);
-        value = joined(value, prints[24 + job], prints[job]);
-        power = joined(power, prints[24 + job], 0);
+        let behind = wide_print(prints[24 + job]);
+        value = joined(value, behind, wide_print(prints[job]));
+        power = joined(power, behind, 0);
         i += 1;
     }
     Print {
         value: value,
         power: power,
     }
+}
+
+// The fingerprints of what the rules leave, by those of jobs' rows: of each rule whose row may be long, or whose job has many rules.
+fn rule_prints(rules: &[u8], sums: &[u16; 252], many: &[u8; 24], prints: &mut [u32; 300])
+    requires { ⌜ CanPrint (now rules) (now prints) ⌝ }
+    ensures { λ _. ⌜ RulesPrinted (now (rules .entry)) (now (prints .entry)) (now (prints .exit)) ⌝ }
+{
+    let total = rule_total(rules);
+    let mut i = 0;
+    while i < total {
+        let at = i;
+        i += 1;
+        if sums[at] < 64 {
+            if many[rule_job(rules, at)] == 0 {
+                continue;
+            }
+        }
+        let print = plan_print(prints, rule_after(rules, at));
+        prints[48 + at] = print.value as u32 + 1;
+    }
+}
+
+// The fingerprints of the rows of the first jobs of a region, and of what rules leave by them.
+pub fn all_prints(
+    rules: &[u8],
+    sums: &[u16; 252],
+    many: &[u8; 24],
+    rows: &[u8],
+    lens: &[u16; 24],
+    jobs: usize,
+) -> [u32; 300]
+    requires { ⌜ GoodList jobs (now rules) ⌝ }
+    requires { ⌜ Within jobs (now lens) (now rows) ⌝ }
+    ensures { λ r. ⌜ AllPrinted (now (rules .entry)) jobs (row (now (lens .entry)) (now (rows .entry))) r ⌝ }
+{
+    let mut prints = row_prints(rows, lens, jobs);
+    rule_prints(rules, sums, many, &mut prints);
+    prints
 }

@@ -18,7 +18,7 @@ use Rattle.rows.specs.Region.{row, Within, old-half, new-half}
 use Rattle.rows.proofs.OneRow.{row-new, row-old}
 use Rattle.facts.specs.Facts.{norms-in, order-in, jobs-in, table-by}
 use Rattle.facts.proofs.Lookups.{jobs-few, place-job, place-rises}
-use Rattle.fingerprints.specs.Fingerprints.{Printed}
+use Rattle.fingerprints.specs.Fingerprints.{Printed, AllPrinted}
 use Rattle.settled.specs.Settled.{History, Settling, Settles}
 use Rattle.decomposing.specs.Candidates.{Earlier-rows, Decomposable, RowWritten}
 use Rattle.decomposing.proofs.LentParts.{middle-part}
@@ -48,10 +48,10 @@ pub lent-within : (n m : ℕ) (old area : List ℕ) → n ≡ m → Within m old
 unfolding old-half
 lent-within n m old area e h = subst (λ (k : ℕ). Within k old (take 12288 area)) (sym e) h
 
-pub lent-printed : (n m : ℕ) (old area prints : List ℕ) → n ≡ m → Printed n (row old (take 12288 area)) prints →
-    Printed m (row old (old-half area)) prints
+pub lent-printed : (rs : List ℕ) (n m : ℕ) (old area prints : List ℕ) → n ≡ m → AllPrinted rs n (row old (take 12288 area)) prints →
+    AllPrinted rs m (row old (old-half area)) prints
 unfolding old-half
-lent-printed n m old area prints e h = subst (λ (k : ℕ). Printed k (row old (take 12288 area)) prints) e h
+lent-printed rs n m old area prints e h = subst (λ (k : ℕ). AllPrinted rs k (row old (take 12288 area)) prints) e h
 
 -- one old row as it is lent
 part-of-front : (half s n : ℕ) (xs : List ℕ) → s + n ≤ half → take n (drop s xs) ≡ take n (drop s (take half xs))
@@ -169,7 +169,7 @@ module _ (rs sums next facts old new₀ flags before : List ℕ) (ready : RowsRe
         }
 
     -- what the next new row asks
-    pub growing-asks : (prints : List ℕ) → Printed (jobs-in facts) (row old (old-half before)) prints → place < jobs-in facts →
+    pub growing-asks : (prints : List ℕ) → AllPrinted rs (jobs-in facts) (row old (old-half before)) prints → place < jobs-in facts →
         Decomposable rs facts sums next prints old new after place
     unfolding table-by table-of
     growing-asks prints printed h =
@@ -182,7 +182,8 @@ module _ (rs sums next facts old new₀ flags before : List ℕ) (ready : RowsRe
           size = w .size;
           old-within = subst (λ (l : List ℕ). Within (jobs-in facts) old l) same (ready .old-within);
           new-within = w .within;
-          printed = subst (λ (l : List ℕ). Printed (jobs-in facts) (row old l) prints) same printed;
+          printed = subst (λ (l : List ℕ). Printed (jobs-in facts) (row old l) prints) same (printed .jobs-printed);
+          rule-printed = printed .rules-printed;
           inside = h;
           decomposition = subst (λ (l : List ℕ). Decomposition t ns (row old l)) same (ready .decomposition);
           earlier = subst (λ (l : List ℕ). Earlier-rows facts rs (row old l) e (getD (order-in facts) place 0)) same

@@ -1,17 +1,21 @@
 // Decompositions, refined in rounds until no prime is new. The area has two halves of 24 rows of 512 bytes: the old rows and the new ones.
+use area::wide;
 use decomposing::new_row;
+use facts::first_rule;
 use facts::job_at;
 use facts::job_count;
 use facts::norm_of;
-use fingerprints::row_prints;
+use fingerprints::all_prints;
 use rows::alone;
 use rows::row_len;
 use rows::same_row;
+use rules::rule_total;
 use settled::settled;
 ghost use mathlib.Core.Path.{_≡_};
 ghost use Prim.Native.Nat.{_≤_, _<_};
 ghost use lib.ListN.{length, replicate};
 ghost use Rattle.bpa.specs.Norms.{norms, Good};
+ghost use Rattle.rules.specs.Places.{rule-count};
 ghost use Rattle.rows.specs.Region.{row, old-half, new-half};
 ghost use Rattle.facts.specs.Facts.{jobs-in, table-by, Tables};
 ghost use Rattle.refining.specs.Rounds.{FirstIn, RowKept, CanKeep, Kept, RowsReady, NewRows, PrimesFound, Rounded, FinalIn};
@@ -90,6 +94,7 @@ fn new_rows(
     facts: &[u64; 121],
     sums: &[u16; 252],
     next: &[u8; 252],
+    many: &[u8; 24],
     old: &[u16; 24],
     new: &mut [u16; 24],
     moved: &mut [u8; 24],
@@ -99,7 +104,7 @@ fn new_rows(
     ensures { λ _. ⌜ NewRows (now (rules .entry)) (now (facts .entry)) (now (old .entry)) (now (new .exit)) (now (moved .exit)) (now (area .entry)) (now (area .exit)) ⌝ }
 {
     let jobs = job_count(facts);
-    let prints = row_prints(&area[0..12288], old, jobs);
+    let prints = all_prints(rules, sums, many, &area[0..12288], old, jobs);
     let mut stale = *moved;
     *moved = [0u8; 24];
     let mut row = [0u8; 512];
@@ -163,6 +168,7 @@ fn round(
     facts: &[u64; 121],
     sums: &[u16; 252],
     next: &[u8; 252],
+    many: &[u8; 24],
     old: &[u16; 24],
     new: &mut [u16; 24],
     moved: &mut [u8; 24],
@@ -171,8 +177,42 @@ fn round(
     requires { ⌜ RowsReady (now rules) (now facts) (now sums) (now next) (now old) (now new) (now moved) (now area) ⌝ }
     ensures { λ r. ⌜ Rounded (now (rules .entry)) (now (facts .entry)) (now (old .entry)) (now (new .exit)) (now (moved .exit)) (now (area .entry)) (now (area .exit)) r ⌝ }
 {
-    new_rows(rules, facts, sums, next, old, new, moved, area);
+    new_rows(rules, facts, sums, next, many, old, new, moved, area);
     new_prime(facts, old, new, area)
+}
+
+// Whether a chain of rules is long.
+fn long_chain(next: &[u8; 252], start: usize, total: usize) -> bool
+    requires { ⌜ total ≤ 252 ⌝ }
+{
+    let mut k = start;
+    let mut n: usize = 0;
+    while n < 12 {
+        n += 1;
+        if total <= k {
+            return false;
+        }
+        k = wide(next[k]);
+    }
+    true
+}
+
+// A mark for each job that has so many different rules that fingerprints of what they leave are worth their making. No answer depends on it.
+fn many_rules(rules: &[u8], facts: &[u64; 121], next: &[u8; 252]) -> [u8; 24]
+    requires { ⌜ (jobs-in (now facts) ≤ 24) × (rule-count (now rules) ≤ 252) ⌝ }
+{
+    let jobs = job_count(facts);
+    let total = rule_total(rules);
+    let mut many = [0u8; 24];
+    let mut j = 0;
+    while j < jobs {
+        let job = j;
+        j += 1;
+        if long_chain(next, first_rule(facts, job), total) {
+            many[job] = 1;
+        }
+    }
+    many
 }
 
 // The rows that the rounds end with, in the first half of the area: jobs as rows of primes. It gives their lengths.
@@ -189,11 +229,22 @@ pub fn refine(
     ensures { λ r. ⌜ FinalIn (now (rules .entry)) (now (facts .entry)) r (now (area .exit)) ⌝ }
 {
     let jobs = job_count(facts);
+    let many = many_rules(rules, facts, next);
     let mut old = first_rows(rules, facts, sums, next, &mut area[12288..24576]);
     let mut new = old;
     let mut moved = [1u8; 24];
     keep(jobs, &new, &moved, area);
-    while round(rules, facts, sums, next, &old, &mut new, &mut moved, area) {
+    while round(
+        rules,
+        facts,
+        sums,
+        next,
+        &many,
+        &old,
+        &mut new,
+        &mut moved,
+        area,
+    ) {
         keep(jobs, &new, &moved, area);
         old = new;
     }

@@ -1,5 +1,5 @@
 -- `may_agree` meets its contract: unequal moves or norms deny that the rules agree, and so do unequal fingerprints. Assumes nothing.
-use mathlib.Core.Path.{_≡_, refl, sym, ap, _∙_}
+use mathlib.Core.Path.{_≡_, sym, ap, _∙_}
 use mathlib.Core.Bool.{Bool, true}
 use mathlib.Core.List.{List}
 use Prim.Native.Nat.{ℕ, _+_}
@@ -74,14 +74,11 @@ equal-steps c out p =
     (sym (moves .before .before .rule-move .ensures .is) ∙ moves .if1 .left ∙ moves .before .rule-move2 .ensures .is)
     (sym (left-norm norms) ∙ c .if2 .left ∙ right-norm norms) p
 
-returns-3 : tie.Need-returns-3
-returns-3 c = equal-steps (c .before .before .before) true (λ same. refl)
-
 same-print-requires : tie.Need-same-print-requires
-same-print-requires c κs = let at = start (c .before .before .before .before) in at .pre
+same-print-requires c κs = start (c .before) .pre
 
-returns-4 : tie.Need-returns-4
-returns-4 c = equal-steps (c .before .before .before .before) (c .same-print .result) (c .same-print .ensures)
+returns-3 : tie.Need-returns-3
+returns-3 c = equal-steps (c .before) (c .same-print .result) (c .same-print .ensures)
 
 pub may-agree-spec : {M : Type 1} → statement M
 may-agree-spec =
@@ -98,9 +95,5 @@ may-agree-spec =
     (λ c κs. search needs)  -- wide-norm-requires-2
     add-if2
     returns-2
-    (λ c. search needs)  -- mul-wide-norm-3
-    (λ c. search needs)  -- element-copy-out-wide-norm-3
-    (λ c κs. search needs)  -- wide-norm-requires-3
-    returns-3
     same-print-requires
-    returns-4)
+    returns-3)

@@ -1,15 +1,15 @@
 -- `same_print` meets its contract: equal fingerprints are seen to be equal. Assumes nothing.
-use mathlib.Core.Path.{_≡_}
+use mathlib.Core.Path.{_≡_, refl, sym, subst}
 use mathlib.Core.List.{List}
-use Prim.Native.Nat.{ℕ, _<_}
+use Prim.Native.Nat.{ℕ, _+_, _<_}
+use native.Mathlib.Omega.{arith}
+use lib.ListN.{getD}
 use borrow.Author.Needs.{needs}
 use borrow.Author.Tests.{eq-eqb}
 use Rattle.rules.specs.Places.{rule-at, rule-count}
-use Rattle.rules.specs.Lists.{HasPlace}
-use Rattle.rules.proofs.ListLaws.{good-has-place}
-use Rattle.fingerprints.specs.Fingerprints.{Printable}
-use Rattle.answering.specs.Agreeing.{Printing}
-use Rattle.answering.proofs.Agreement.{after-printable, afters-same}
+use Rattle.fingerprints.specs.Fingerprints.{RulePrint}
+use Rattle.fingerprints.proofs.Digits.{modulus-is}
+use Rattle.answering.proofs.Agreement.{numbers-same}
 use Rattle.answering.proofs.same_print.Statement.{statement}
 use Rattle.answering.proofs.same_print.Tie as tie
 
@@ -21,55 +21,57 @@ module _ (c : tie.Start) where
   abbrev prints : List ℕ
   prints = c .args .prints .now
 
-  abbrev printing : Printing rs prints (c .args .pair .gap) (c .args .pair .value) (c .args .pair .power)
-  printing = c .pre .0
+  small : (i : ℕ) → i < rule-count rs → i < 252
+  small i h = omega (arith, c .pre .0 .list .few)
 
-  has-place : (i : ℕ) → i < rule-count rs → HasPlace rs i
-  has-place i h = good-has-place (printing .jobs) rs (printing .list) i h
+  -- a number that was looked up
+  looked-up : (i n : ℕ) → i < rule-count rs → n ≡ getD prints (48 + i) 0 → RulePrint prints (rule-at rs i .after) n
+  looked-up i n h e = subst (RulePrint prints (rule-at rs i .after)) (sym e) (c .pre .0 .rule-prints i h)
 
-  printable : (i : ℕ) (l : List ℕ) → i < rule-count rs → l ≡ rule-at rs i .after → Printable prints l
-  printable i l h e = after-printable rs prints (c .args .pair .gap) (c .args .pair .value) (c .args .pair .power) printing i l h e
+-- both numbers
+module _ (c : tie.After-wide-print2) where
+  abbrev start : tie.Start
+  start = c .before .before .before .before .before
 
-rule-after-requires : tie.Need-rule-after-requires
-rule-after-requires c κs = let at = c .before in has-place at (at .args .r) (at .pre .1 .0)
+  left : RulePrint (prints start) (rule-at (rs start) (start .args .r) .after) (c .before .before .wide-print .result)
+  left = looked-up start (start .args .r) (c .before .before .wide-print .result) (start .pre .1 .0) (c .before .before .wide-print .ensures)
 
-plan-print-requires : tie.Need-plan-print-requires
-plan-print-requires c κs =
-    let at = c .before .before in
-    printable at (at .args .r) (c .rule-after .result .now) (at .pre .1 .0) (c .rule-after .ensures)
-
-rule-after-requires-2 : tie.Need-rule-after-requires-2
-rule-after-requires-2 c κs = let at = c .before .before .before in has-place at (at .args .s) (at .pre .1 .1)
-
-plan-print-requires-2 : tie.Need-plan-print-requires-2
-plan-print-requires-2 c κs =
-    let at = c .before .before .before .before in
-    printable at (at .args .s) (c .rule-after2 .result .now) (at .pre .1 .1) (c .rule-after2 .ensures)
+  right : RulePrint (prints start) (rule-at (rs start) (start .args .s) .after) (c .wide-print2 .result)
+  right = looked-up start (start .args .s) (c .wide-print2 .result) (start .pre .1 .1) (c .wide-print2 .ensures)
 
 joined-requires : tie.Need-joined-requires
 joined-requires c κs =
-    let at = printing (c .before .before .before .before .before) in
-    (c .plan-print2 .ensures .value-small, at .power-small, at .value-small)
+    let both = c .before .before in
+    let at = start both .pre .0 in
+    (omega (arith, right both .small, c .if2 .left), at .power-small, at .value-small)
 
-returns : tie.Need-returns
-returns c same =
-    let right = c .before .before in
-    let left = right .before .before in
-    let at = left .before .before .before in
-    eq-eqb (left .plan-print .result .value) (c .before .joined .result)
-    (afters-same (rs at) (prints at) (at .args .pair .value) (at .args .pair .power) (at .args .r) (at .args .s)
-    (left .before .rule-after .result .now) (right .before .rule-after2 .result .now)
-    (left .plan-print .result .value) (right .plan-print2 .result .value) (c .before .joined .result)
-    (left .before .rule-after .ensures) (right .before .rule-after2 .ensures)
-    (left .plan-print .ensures .value-is) (right .plan-print2 .ensures .value-is) (c .before .joined .ensures .is) same)
+returns-3 : tie.Need-returns-3
+returns-3 c same =
+    let some = c .before in
+    let one = some .before in
+    let both = one .before in
+    let at = start both in
+    let a = both .before .before .wide-print .result in
+    let b = both .wide-print2 .result in
+    eq-eqb a (1 + c .joined .result)
+    (numbers-same (rs at) (prints at) (at .args .pair .value) (at .args .pair .power) (at .args .r) (at .args .s) a b (c .joined .result)
+    (omega (arith, one .if1 .left)) (omega (arith, some .if2 .left)) (left both) (right both) (c .joined .ensures .is) same)
 
 pub same-print-spec : {M : Type 1} → statement M
 same-print-spec =
     tie.close
     (tie.spec
-    rule-after-requires
-    plan-print-requires
-    rule-after-requires-2
-    plan-print-requires-2
+    (λ c. omega (arith, small (c .before) (c .before .args .r) (c .before .pre .1 .0)))  -- add-wide-print
+    (λ c. omega (arith, small (c .before) (c .before .args .r) (c .before .pre .1 .0)))  -- mul-wide-print
+    (λ c. omega (arith, small (c .before) (c .before .args .r) (c .before .pre .1 .0)))  -- element-copy-out-wide-print
+    (λ c κs. search needs)  -- wide-print-requires
+    (λ c. let s = c .before .before .before in omega (arith, small s (s .args .s) (s .pre .1 .1)))  -- add-wide-print-2
+    (λ c. let s = c .before .before .before in omega (arith, small s (s .args .s) (s .pre .1 .1)))  -- mul-wide-print-2
+    (λ c. let s = c .before .before .before in omega (arith, small s (s .args .s) (s .pre .1 .1)))  -- element-copy-out-wide-print-2
+    (λ c κs. search needs)  -- wide-print-requires-2
+    (λ c same. refl)  -- returns
+    (λ c same. refl)  -- returns-2
+    (λ c. omega (arith, c .if2 .left))  -- sub-joined
     joined-requires
-    returns)
+    (λ c. omega (arith, c .joined .ensures .small, modulus-is))  -- add-result
+    returns-3)

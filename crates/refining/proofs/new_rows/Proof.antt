@@ -7,6 +7,7 @@ use borrow.Author.Needs.{needs}
 use lib.ListN.{length, getD, set, length-take, length-drop}
 use lib.Seq.{slice}
 use Rattle.area.specs.Areas.{put}
+use Rattle.rules.specs.Lists.{GoodList}
 use Rattle.facts.specs.Facts.{order-in, jobs-in}
 use Rattle.decomposing.proofs.LentParts.{middle-part}
 use Rattle.refining.proofs.NewHalf.{Growing, lent-within, lent-printed, job-small, few}
@@ -15,21 +16,23 @@ use Rattle.refining.proofs.new_rows.Statement.{statement}
 use Rattle.refining.proofs.new_rows.Tie as tie
 
 abbrev Inv-loop : tie.InvT-loop
-Inv-loop rules facts sums next old new₀ moved₀ area₀ jobs prints stale₀ row₀ place₀ new moved area stale row place =
+Inv-loop rules facts sums next many old new₀ moved₀ area₀ jobs prints stale₀ row₀ place₀ new moved area stale row place =
     (place ≤ jobs) × (length row ≡ 512) × Growing rules facts old area₀ stale₀ new stale moved area place
 
 abbrev μ-loop : tie.MeasureT-loop
-μ-loop rules facts sums next old new₀ moved₀ area₀ jobs prints stale₀ row₀ place₀ new moved area stale row place = jobs - place
+μ-loop rules facts sums next many old new₀ moved₀ area₀ jobs prints stale₀ row₀ place₀ new moved area stale row place = jobs - place
 
-part-row-prints-end : tie.Need-part-row-prints-end Inv-loop μ-loop
-part-row-prints-end c = omega (arith, c .before .before .before .before .pre .size)
+part-all-prints-end : tie.Need-part-all-prints-end Inv-loop μ-loop
+part-all-prints-end c = omega (arith, c .before .before .before .before .pre .size)
 
-row-prints-requires : tie.Need-row-prints-requires Inv-loop μ-loop
-row-prints-requires c κs =
+all-prints-requires : tie.Need-all-prints-requires Inv-loop μ-loop
+all-prints-requires c κs =
     let k = c .before .before in
     let s = k .before .before .before in
-    let a = s .args in
-    lent-within (k .job-count .result) (jobs-in (a .facts .now)) (a .old .now) (a .area .now) (k .job-count .ensures) (s .pre .old-within)
+    let a = s .args in (
+      subst (λ (n : ℕ). GoodList n (a .rules .now)) (sym (k .job-count .ensures)) (s .pre .tables .list),
+      lent-within (k .job-count .result) (jobs-in (a .facts .now)) (a .old .now) (a .area .now) (k .job-count .ensures) (s .pre .old-within),
+    )
 
 loop-holds : tie.Need-loop-holds Inv-loop μ-loop
 loop-holds c =
@@ -104,13 +107,13 @@ new-row-requires : tie.Need-new-row-requires Inv-loop μ-loop
 new-row-requires c κs =
     let p = c .before .before .before .before .before .before .before .before .before in
     let v = p .before .before .loop in
-    let w = p .before .before .before .before .before .row-prints in
+    let w = p .before .before .before .before .before .all-prints in
     let jobs = p .before .before .before .before .before .before .before .before .job-count in
     let s = start (p .before) in
     let a = s .args in (
       growing-asks (a .rules .now) (a .sums .now) (a .next .now) (a .facts .now) (a .old .now) (a .new .now) (a .moved .now) (a .area .now)
           (s .pre) (v .new) (v .stale) (v .moved) (v .area) (v .place) (v .inv .2) (w .result)
-          (lent-printed (jobs .result) (jobs-in (a .facts .now)) (a .old .now) (a .area .now) (w .result) (jobs .ensures) (w .ensures))
+          (lent-printed (a .rules .now) (jobs .result) (jobs-in (a .facts .now)) (a .old .now) (a .area .now) (w .result) (jobs .ensures) (w .ensures))
           (place-below (p .before)),
       v .inv .1,
     )
@@ -281,10 +284,10 @@ new-rows-spec =
     Inv-loop
     μ-loop
     (λ c κs. search needs)  -- job-count-requires
-    (λ c. search needs)  -- sub-row-prints
-    (λ c. search needs)  -- part-row-prints-start
-    part-row-prints-end
-    row-prints-requires
+    (λ c. search needs)  -- sub-all-prints
+    (λ c. search needs)  -- part-all-prints-start
+    part-all-prints-end
+    all-prints-requires
     loop-holds
     add-place
     job-at-requires

@@ -12,14 +12,14 @@ use Rattle.refining.proofs.refine.Statement.{statement}
 use Rattle.refining.proofs.refine.Tie as tie
 
 abbrev Inv-loop : tie.InvT-loop
-Inv-loop rules facts sums next area₀ jobs old₀ new₀ moved₀ area old new moved = BetweenRounds rules facts sums next old new moved area
+Inv-loop rules facts sums next area₀ jobs many old₀ new₀ moved₀ area old new moved = BetweenRounds rules facts sums next old new moved area
 
 abbrev μ-loop : tie.MeasureT-loop
-μ-loop rules facts sums next area₀ jobs old₀ new₀ moved₀ area old new moved = composite (table-by facts rules) (row old (old-half area))
+μ-loop rules facts sums next area₀ jobs many old₀ new₀ moved₀ area old new moved = composite (table-by facts rules) (row old (old-half area))
 
 first-rows-requires : tie.Need-first-rows-requires Inv-loop μ-loop
 first-rows-requires c κs =
-    let s = c .before .before .before .before in
+    let s = c .before .before .before .before .before in
     let area = s .args .area .now in
     let size = s .pre .1 .1 in
     (s .pre .0, subst (λ (l : List _). length l ≡ 12288) (sym (lent-new area size)) (new-size area size))
@@ -27,8 +27,8 @@ first-rows-requires c κs =
 keep-requires : tie.Need-keep-requires Inv-loop μ-loop
 keep-requires c κs =
     let f = c .before .before .before .before .before .first-rows in
-    let n = c .before .before .before .before .before .before .before .job-count in
-    let s = c .before .before .before .before .before .before .before .before .before .before in
+    let n = c .before .before .before .before .before .before .before .before .job-count in
+    let s = c .before .before .before .before .before .before .before .before .before .before .before in
     let a = s .args in
     let size = s .pre .1 .1 in
     let region = f .last .1 .1 .1 .1 .0 in
@@ -40,8 +40,8 @@ loop-holds : tie.Need-loop-holds Inv-loop μ-loop
 loop-holds c =
     let k = c .before .before .keep in
     let f = c .before .before .before .before .before .before .before .before .first-rows in
-    let n = c .before .before .before .before .before .before .before .before .before .before .job-count in
-    let s = c .before .before .before .before .before .before .before .before .before .before .before .before .before in
+    let n = c .before .before .before .before .before .before .before .before .before .before .before .job-count in
+    let s = c .before .before .before .before .before .before .before .before .before .before .before .before .before .before in
     let a = s .args in
     let size = s .pre .1 .1 in
     let region = f .last .1 .1 .1 .1 .0 in
@@ -51,57 +51,57 @@ loop-holds c =
     (f .ensures)
 
 round-requires : tie.Need-round-requires Inv-loop μ-loop
-round-requires c κs = c .before .before .before .before .loop .inv .ready
+round-requires c κs = c .before .before .before .before .before .loop .inv .ready
 
 keep-requires-2 : tie.Need-keep-requires-2 Inv-loop μ-loop
 keep-requires-2 c κs =
     let w = c .before .before .before .before .before .before .round in
-    let l = c .before .before .before .before .before .before .before .before .before .before .before in
+    let l = c .before .before .before .before .before .before .before .before .before .before .before .before in
     let v = l .loop in
-    let n = l .before .before .before .before .before .before .before .before .before .before .before .job-count in
-    let a = l .before .before .before .before .before .before .before .before .before .before .before .before .before .before .args in
-    rounds-keep (a .rules .now) (a .facts .now) (a .sums .now) (a .next .now) (v .old) (v .new) (v .moved) (w .last .1 .1 .1 .1 .1 .0)
-    (w .last .1 .1 .1 .1 .1 .1 .0) (v .area) (w .last .1 .1 .1 .1 .1 .1 .1 .0) (w .result) (v .inv) (w .ensures) (n .result) (n .ensures)
+    let n = l .before .before .before .before .before .before .before .before .before .before .before .before .job-count in
+    let a = l .before .before .before .before .before .before .before .before .before .before .before .before .before .before .before .args in
+    rounds-keep (a .rules .now) (a .facts .now) (a .sums .now) (a .next .now) (v .old) (v .new) (v .moved) (w .last .1 .1 .1 .1 .1 .1 .0)
+    (w .last .1 .1 .1 .1 .1 .1 .1 .0) (v .area) (w .last .1 .1 .1 .1 .1 .1 .1 .1 .0) (w .result) (v .inv) (w .ensures) (n .result) (n .ensures)
 
 loop-less : tie.Need-loop-less Inv-loop μ-loop
 loop-less c =
     let k = c .before .before .keep2 in
     let w = c .before .before .before .before .before .before .before .before .before .round in
-    let l = c .before .before .before .before .before .before .before .before .before .before .before .before .before .before in
+    let l = c .before .before .before .before .before .before .before .before .before .before .before .before .before .before .before in
     let v = l .loop in
-    let n = l .before .before .before .before .before .before .before .before .before .before .before .job-count in
-    let a = l .before .before .before .before .before .before .before .before .before .before .before .before .before .before .args in
-    rounds-fall (a .rules .now) (a .facts .now) (a .sums .now) (a .next .now) (v .old) (v .new) (v .moved) (w .last .1 .1 .1 .1 .1 .0)
-    (w .last .1 .1 .1 .1 .1 .1 .0) (v .area) (w .last .1 .1 .1 .1 .1 .1 .1 .0) (w .result) (v .inv) (w .ensures) (k .last .1 .1 .1 .0)
+    let n = l .before .before .before .before .before .before .before .before .before .before .before .before .job-count in
+    let a = l .before .before .before .before .before .before .before .before .before .before .before .before .before .before .before .args in
+    rounds-fall (a .rules .now) (a .facts .now) (a .sums .now) (a .next .now) (v .old) (v .new) (v .moved) (w .last .1 .1 .1 .1 .1 .1 .0)
+    (w .last .1 .1 .1 .1 .1 .1 .1 .0) (v .area) (w .last .1 .1 .1 .1 .1 .1 .1 .1 .0) (w .result) (v .inv) (w .ensures) (k .last .1 .1 .1 .0)
     (n .result) (n .ensures) (k .ensures) (c .before .before .before .before .before .before .if1 .taken)
 
 loop-again : tie.Need-loop-again Inv-loop μ-loop
 loop-again c =
     let k = c .before .before .keep2 in
     let w = c .before .before .before .before .before .before .before .before .before .round in
-    let l = c .before .before .before .before .before .before .before .before .before .before .before .before .before .before in
+    let l = c .before .before .before .before .before .before .before .before .before .before .before .before .before .before .before in
     let v = l .loop in
-    let n = l .before .before .before .before .before .before .before .before .before .before .before .job-count in
-    let a = l .before .before .before .before .before .before .before .before .before .before .before .before .before .before .args in
-    rounds-go-on (a .rules .now) (a .facts .now) (a .sums .now) (a .next .now) (v .old) (v .new) (v .moved) (w .last .1 .1 .1 .1 .1 .0)
-    (w .last .1 .1 .1 .1 .1 .1 .0) (v .area) (w .last .1 .1 .1 .1 .1 .1 .1 .0) (w .result) (v .inv) (w .ensures) (k .last .1 .1 .1 .0)
+    let n = l .before .before .before .before .before .before .before .before .before .before .before .before .job-count in
+    let a = l .before .before .before .before .before .before .before .before .before .before .before .before .before .before .before .args in
+    rounds-go-on (a .rules .now) (a .facts .now) (a .sums .now) (a .next .now) (v .old) (v .new) (v .moved) (w .last .1 .1 .1 .1 .1 .1 .0)
+    (w .last .1 .1 .1 .1 .1 .1 .1 .0) (v .area) (w .last .1 .1 .1 .1 .1 .1 .1 .1 .0) (w .result) (v .inv) (w .ensures) (k .last .1 .1 .1 .0)
     (n .result) (n .ensures) (k .ensures)
 
 same-length : tie.Need-same-length Inv-loop μ-loop
 same-length c =
-    let l = c .before .before .before .before .before .before .before .before in
-    let s = l .before .before .before .before .before .before .before .before .before .before .before .before .before .before in
+    let l = c .before .before .before .before .before .before .before .before .before in
+    let s = l .before .before .before .before .before .before .before .before .before .before .before .before .before .before .before in
     c .before .before .before .round .ensures .rows .size ∙ sym (s .pre .1 .1)
 
 returns : tie.Need-returns Inv-loop μ-loop
 returns c =
     let w = c .before .before .before .round in
-    let l = c .before .before .before .before .before .before .before .before in
+    let l = c .before .before .before .before .before .before .before .before .before in
     let v = l .loop in
-    let s = l .before .before .before .before .before .before .before .before .before .before .before .before .before .before in
+    let s = l .before .before .before .before .before .before .before .before .before .before .before .before .before .before .before in
     let a = s .args in
-    rounds-end (a .rules .now) (a .facts .now) (a .sums .now) (a .next .now) (v .old) (v .new) (v .moved) (w .last .1 .1 .1 .1 .1 .0)
-    (w .last .1 .1 .1 .1 .1 .1 .0) (v .area) (w .last .1 .1 .1 .1 .1 .1 .1 .0) (w .result) (v .inv) (w .ensures) (s .pre .1 .0) (c .if1 .left)
+    rounds-end (a .rules .now) (a .facts .now) (a .sums .now) (a .next .now) (v .old) (v .new) (v .moved) (w .last .1 .1 .1 .1 .1 .1 .0)
+    (w .last .1 .1 .1 .1 .1 .1 .1 .0) (v .area) (w .last .1 .1 .1 .1 .1 .1 .1 .1 .0) (w .result) (v .inv) (w .ensures) (s .pre .1 .0) (c .if1 .left)
 
 pub refine-spec : {M : Type 1} → statement M
 refine-spec =
@@ -110,6 +110,7 @@ refine-spec =
     Inv-loop
     μ-loop
     (λ c κs. search needs)  -- job-count-requires
+    (λ c κs. let t = c .before .before .before .pre .0 in (t .list .jobs, t .list .few))  -- many-rules-requires
     (λ c. search needs)  -- sub-first-rows
     (λ c. search needs)  -- part-first-rows-start
     (λ c. search needs)  -- part-first-rows-end
