@@ -5,10 +5,13 @@ use mathlib.Core.Logic.{⊎-elim}
 use Prim.Native.Nat.{ℕ, _+_, _%_, _^_, _≤_, _<_}
 use native.Mathlib.Nat.{eq-or-lt-of-le}
 use native.Mathlib.Omega.{arith}
-use lib.ListN.{length, getD, set, replicate, getD-replicate, length-set, length-replicate}
+use lib.Dec.{eqb}
+use lib.ListN.{length, getD, set, length-set}
 use lib.Seq.{getD-set-same, getD-set-other}
+use borrow.Author.Tests.{eqb-true, eqb-false}
 use Rattle.bpa.specs.Method.{Rows}
-use Rattle.fingerprints.specs.Fingerprints.{modulus, base, number, IsPrint, Printed}
+use Rattle.bpa.proofs.Basics.Cases.{by-test}
+use Rattle.fingerprints.specs.Fingerprints.{modulus, base, number, IsPrint, Printed, KnownPrints}
 use Rattle.fingerprints.proofs.Prints.{mod-small}
 
 -- a fingerprint and its power are below the modulus
@@ -18,59 +21,76 @@ print-value row value power p = rw (p .value-is) (mod-small (number row))
 pub print-power : (row : List ℕ) (value power : ℕ) → IsPrint row value power → power < modulus
 print-power row value power p = rw (p .power-is) (mod-small (base ^ length row))
 
--- the rows of the jobs before j have their fingerprints
-module _ (d : Rows) where
-  pub printed-none : Printed 0 d (replicate 300 0)
-  printed-none = record { size = length-replicate {A = ℕ} 300 0; value = λ j h. absurd (omega arith); power = λ j h. absurd (omega arith) }
+-- the rows of the jobs before j have their fingerprints, and those of later jobs if they have not moved
+pub record Printing (jobs : ℕ) (d : Rows) (moved prints : List ℕ) (j : ℕ) : Type 0 where
+  pub known : KnownPrints jobs d moved prints
+  pub value : (k : ℕ) → k < j → k < jobs → getD prints k 0 ≡ number (d k) % modulus
+  pub power : (k : ℕ) → k < j → k < jobs → getD prints (24 + k) 0 ≡ base ^ length (d k) % modulus
 
-  -- the value v and the power p of the row of j are written
-  module _ (j : ℕ) (prints : List ℕ) (l : j < 24) (w : Printed j d prints) (v p : ℕ) where
-    written : List ℕ
-    written = set (set prints j v) (24 + j) p
+module _ (jobs : ℕ) (d : Rows) (moved : List ℕ) where
+  pub printing-first : (prints : List ℕ) → KnownPrints jobs d moved prints → Printing jobs d moved prints 0
+  printing-first prints w = record { known = w; value = λ k h. absurd (omega arith); power = λ k h. absurd (omega arith) }
 
-    size-first : length (set prints j v) ≡ 300
-    size-first = length-set prints j v ∙ w .size
+  pub printing-last : (prints : List ℕ) (j : ℕ) → jobs ≤ j → Printing jobs d moved prints j → Printed jobs d prints
+  printing-last prints j h w = record {
+    size = w .known .size;
+    value = λ k l. w .value k (omega arith) l;
+    power = λ k l. w .power k (omega arith) l;
+  }
 
-    new-value : getD written j 0 ≡ v
-    unfolding written
-    new-value = getD-set-other (set prints j v) (24 + j) j p 0 (λ e. omega arith) ∙ getD-set-same prints j v 0 (omega (arith, w .size))
+  module _ (prints : List ℕ) (j : ℕ) (w : Printing jobs d moved prints j) where
+    -- a row that has not moved
+    pub printing-past : getD moved j 0 ≡ 0 → Printing jobs d moved prints (j + 1)
+    printing-past z = record {
+      known = w .known;
+      value = λ k h l. ⊎-elim (λ (e : k ≡ j). w .known .value k l (rw e z)) (λ (b : k < j). w .value k b l) (eq-or-lt-of-le (omega arith));
+      power = λ k h l. ⊎-elim (λ (e : k ≡ j). w .known .power k l (rw e z)) (λ (b : k < j). w .power k b l) (eq-or-lt-of-le (omega arith));
+    }
 
-    new-power : getD written (24 + j) 0 ≡ p
-    unfolding written
-    new-power = getD-set-same (set prints j v) (24 + j) p 0 (omega (arith, size-first))
+    -- the value v and the power p of the row of j are written
+    module _ (l : j < 24) (v p : ℕ) (row : List ℕ) (f : row ≡ d j) (s : IsPrint row v p) where
+      written : List ℕ
+      written = set (set prints j v) (24 + j) p
 
-    old-value : (k : ℕ) → k < j → getD written k 0 ≡ getD prints k 0
-    unfolding written
-    old-value k h = getD-set-other (set prints j v) (24 + j) k p 0 (λ e. omega arith) ∙ getD-set-other prints j k v 0 (λ e. omega arith)
+      size-first : length (set prints j v) ≡ 300
+      size-first = length-set prints j v ∙ w .known .size
 
-    old-power : (k : ℕ) → k < j → getD written (24 + k) 0 ≡ getD prints (24 + k) 0
-    unfolding written
-    old-power k h =
-        getD-set-other (set prints j v) (24 + j) (24 + k) p 0 (λ e. omega arith) ∙ getD-set-other prints j (24 + k) v 0 (λ e. omega arith)
+      new-value : getD written j 0 ≡ number (d j) % modulus
+      unfolding written
+      new-value =
+          getD-set-other (set prints j v) (24 + j) j p 0 (λ e. omega arith) ∙ getD-set-same prints j v 0 (omega (arith, w .known .size))
+          ∙ s .value-is ∙ ap (λ (r : List ℕ). number r % modulus) f
 
-    pub printed-more : (row : List ℕ) → row ≡ d j → IsPrint row v p → Printed (j + 1) d (set (set prints j v) (24 + j) p)
-    unfolding written
-    printed-more row f s =
-        record {
+      new-power : getD written (24 + j) 0 ≡ base ^ length (d j) % modulus
+      unfolding written
+      new-power =
+          getD-set-same (set prints j v) (24 + j) p 0 (omega (arith, size-first)) ∙ s .power-is
+          ∙ ap (λ (r : List ℕ). base ^ length r % modulus) f
+
+      old-value : (k : ℕ) → k < 24 → (k ≡ j → ⊥) → getD written k 0 ≡ getD prints k 0
+      unfolding written
+      old-value k h n = getD-set-other (set prints j v) (24 + j) k p 0 (λ e. omega arith) ∙ getD-set-other prints j k v 0 n
+
+      old-power : (k : ℕ) → k < 24 → (k ≡ j → ⊥) → getD written (24 + k) 0 ≡ getD prints (24 + k) 0
+      unfolding written
+      old-power k h n =
+          getD-set-other (set prints j v) (24 + j) (24 + k) p 0 (λ e. n (omega arith)) ∙ getD-set-other prints j (24 + k) v 0 (λ e. omega arith)
+
+      pub printing-more : jobs ≤ 24 → Printing jobs d moved (set (set prints j v) (24 + j) p) (j + 1)
+      unfolding written
+      printing-more few = record {
+        known = record {
           size = length-set (set prints j v) (24 + j) p ∙ size-first;
-          value = λ k h.
-              ⊎-elim (λ (e : k ≡ j). rw e (new-value ∙ s .value-is ∙ ap (λ (r : List ℕ). number r % modulus) f))
-              (λ (b : k < j). old-value k b ∙ w .value k b) (eq-or-lt-of-le (omega arith));
-          power = λ k h.
-              ⊎-elim (λ (e : k ≡ j). rw e (new-power ∙ s .power-is ∙ ap (λ (r : List ℕ). base ^ length r % modulus) f))
-              (λ (b : k < j). old-power k b ∙ w .power k b) (eq-or-lt-of-le (omega arith));
-        }
-
-  -- no other number is written
-  pub others-none : (k : ℕ) → k < 300 → _≡_ {A = ℕ} (getD (replicate 300 0) k 0) 0
-  others-none k h = getD-replicate {A = ℕ} 300 k 0 0 h
-
-  pub others-kept : (prints : List ℕ) (j v p : ℕ) → j < 24 → ((k : ℕ) → 48 ≤ k → k < 300 → getD prints k 0 ≡ 0) →
-      (k : ℕ) → 48 ≤ k → k < 300 → getD (set (set prints j v) (24 + j) p) k 0 ≡ 0
-  others-kept prints j v p l h k a b =
-      getD-set-other (set prints j v) (24 + j) k p 0 (λ e. absurd (omega arith)) ∙ getD-set-other prints j k v 0 (λ e. absurd (omega arith))
-      ∙ h k a b
-
-  pub printed-all : (n j : ℕ) (prints : List ℕ) → n ≤ j → Printed j d prints → Printed n d prints
-  printed-all n j prints l w =
-      record { size = w .size; value = λ k h. w .value k (omega arith); power = λ k h. w .power k (omega arith) }
+          value = λ k h z. by-test (eqb k j) (λ q. rw (eqb-true k j q) new-value)
+              (λ q. old-value k (omega arith) (eqb-false k j q) ∙ w .known .value k h z);
+          power = λ k h z. by-test (eqb k j) (λ q. rw (eqb-true k j q) new-power)
+              (λ q. old-power k (omega arith) (eqb-false k j q) ∙ w .known .power k h z);
+        };
+        value = λ k h b. by-test (eqb k j) (λ q. rw (eqb-true k j q) new-value)
+            (λ q. old-value k (omega arith) (eqb-false k j q) ∙ w .value k (before k h (eqb-false k j q)) b);
+        power = λ k h b. by-test (eqb k j) (λ q. rw (eqb-true k j q) new-power)
+            (λ q. old-power k (omega arith) (eqb-false k j q) ∙ w .power k (before k h (eqb-false k j q)) b);
+      }
+        where
+          before : (k : ℕ) → k < j + 1 → (k ≡ j → ⊥) → k < j
+          before k h n = omega (arith, n)

@@ -12,7 +12,7 @@ use Rattle.bpa.specs.Method.{Rows}
 use Rattle.rules.specs.Places.{rule-at, rule-count}
 use Rattle.rules.specs.Lists.{GoodList}
 use Rattle.rules.proofs.ListLaws.{good-rule}
-use Rattle.fingerprints.specs.Fingerprints.{join, value-from, Printable, PlanPrint, RulePrint, CanPrint, RowsPrinted, RulesPrinted, AllPrinted}
+use Rattle.fingerprints.specs.Fingerprints.{join, value-from, Printable, PlanPrint, RulePrint, Printed, CanPrint, RulesPrinted, AllPrinted}
 use Rattle.fingerprints.proofs.Prints.{printable}
 
 -- two arrays with the same fingerprints of jobs
@@ -35,77 +35,81 @@ printable-kept ps qs plan h p = record {
   power = λ i l. omega (arith, h (24 + getD plan i 0) (omega (arith, p .job i l)), p .power i l);
 }
 
--- the array so far; numbers of rules are told by the one at the beginning
-pub record Marking (rs before now : List ℕ) : Type 0 where
+-- the array so far; the numbers of the rules before i are told by the one at the beginning
+pub record Marking (rs before now : List ℕ) (i : ℕ) : Type 0 where
   pub size : length now ≡ 300
   pub kept : (k : ℕ) → k < 48 → getD now k 0 ≡ getD before k 0
-  pub rules : (i : ℕ) → i < rule-count rs → RulePrint before (rule-at rs i .after) (getD now (48 + i) 0)
+  pub rules : (k : ℕ) → k < i → k < rule-count rs → RulePrint before (rule-at rs k .after) (getD now (48 + k) 0)
 
 module _ (rs before : List ℕ) (c : CanPrint rs before) where
-  pub marking-first : Marking rs before before
-  marking-first = record {
-    size = c .size;
-    kept = λ k h. refl;
-    rules = λ i h. record { is = λ l. absurd (omega (arith, c .none i h)); small = omega (arith, c .none i h) };
-  }
+  pub marking-first : Marking rs before before 0
+  marking-first = record { size = c .size; kept = λ k h. refl; rules = λ k h. absurd (omega arith) }
 
-  module _ (now : List ℕ) (m : Marking rs before now) where
+  module _ (now : List ℕ) (i : ℕ) (m : Marking rs before now i) where
     -- the jobs after a rule have fingerprints
-    pub after-printable : (i : ℕ) (l : List ℕ) → i < rule-count rs → l ≡ rule-at rs i .after → Printable now l
-    after-printable i l h e = subst (Printable now) (sym e) (printable-kept before now (rule-at rs i .after) (m .kept) (c .printable i h))
+    pub after-printable : (k : ℕ) (l : List ℕ) → k < rule-count rs → l ≡ rule-at rs k .after → Printable now l
+    after-printable k l h e = subst (Printable now) (sym e) (printable-kept before now (rule-at rs k .after) (m .kept) (c .printable k h))
 
-    pub marking-more : (i : ℕ) (l : List ℕ) (value power : ℕ) → i < rule-count rs → i < 252 → l ≡ rule-at rs i .after → PlanPrint now l value power →
-        Marking rs before (set now (48 + i) (value + 1))
-    marking-more i l value power h few e p = record {
-      size = length-set now (48 + i) (value + 1) ∙ m .size;
-      kept = λ k b. getD-set-other now (48 + i) k (value + 1) 0 (λ q. absurd (omega arith)) ∙ m .kept k b;
-      rules = λ k b.
-          by-test (eqb k i)
-          (λ q. subst (λ (n : ℕ). RulePrint before (rule-at rs n .after) (getD (set now (48 + i) (value + 1)) (48 + n) 0)) (sym (eqb-true k i q)) here)
-          (λ q. subst (RulePrint before (rule-at rs k .after)) (sym (other k (eqb-false k i q))) (m .rules k b));
-    }
+    -- a number is written for the rule
+    module _ (few : i < 252) (v : ℕ) (here : RulePrint before (rule-at rs i .after) v) where
+      pub marking-by : Marking rs before (set now (48 + i) v) (i + 1)
+      marking-by = record {
+        size = length-set now (48 + i) v ∙ m .size;
+        kept = λ k b. getD-set-other now (48 + i) k v 0 (λ q. absurd (omega arith)) ∙ m .kept k b;
+        rules = λ k b h.
+            by-test (eqb k i)
+            (λ q.
+            subst (λ (n : ℕ). RulePrint before (rule-at rs n .after) (getD (set now (48 + i) v) (48 + n) 0)) (sym (eqb-true k i q))
+            (subst (RulePrint before (rule-at rs i .after)) (sym (getD-set-same now (48 + i) v 0 (omega (arith, m .size)))) here))
+            (λ q.
+            subst (RulePrint before (rule-at rs k .after)) (sym (other k (eqb-false k i q))) (m .rules k (earlier k b (eqb-false k i q)) h));
+      }
+        where
+          other : (k : ℕ) → (k ≡ i → ⊥) → getD (set now (48 + i) v) (48 + k) 0 ≡ getD now (48 + k) 0
+          other k n = getD-set-other now (48 + i) (48 + k) v 0 (λ q. n (omega arith))
+
+          earlier : (k : ℕ) → k < i + 1 → (k ≡ i → ⊥) → k < i
+          earlier k b n = omega (arith, n)
+
+    pub marking-none : i < 252 → Marking rs before (set now (48 + i) 0) (i + 1)
+    marking-none few = marking-by few 0 (record { is = λ l. absurd (omega arith); small = omega arith })
+
+    pub marking-more : (l : List ℕ) (value power : ℕ) → i < rule-count rs → i < 252 → l ≡ rule-at rs i .after → PlanPrint now l value power →
+        Marking rs before (set now (48 + i) (value + 1)) (i + 1)
+    marking-more l value power h few e p =
+        marking-by few (value + 1) (record { is = λ b. omega (arith, same); small = omega (arith, p .value-small) })
       where
         same : value ≡ value-from before 0 (rule-at rs i .after)
         same =
             p .value-is ∙ ap (value-from now 0) e
             ∙ value-kept before now (m .kept) 0 (rule-at rs i .after) (c .printable i h .job)
 
-        written : getD (set now (48 + i) (value + 1)) (48 + i) 0 ≡ value + 1
-        written = getD-set-same now (48 + i) (value + 1) 0 (omega (arith, m .size))
-
-        here : RulePrint before (rule-at rs i .after) (getD (set now (48 + i) (value + 1)) (48 + i) 0)
-        here = record { is = λ l. omega (arith, written, same); small = omega (arith, written, p .value-small) }
-
-        other : (k : ℕ) → (k ≡ i → ⊥) → getD (set now (48 + i) (value + 1)) (48 + k) 0 ≡ getD now (48 + k) 0
-        other k n = getD-set-other now (48 + i) (48 + k) (value + 1) 0 (λ q. n (omega arith))
-
-    pub marking-last : RulesPrinted rs before now
-    marking-last = record {
+    pub marking-last : rule-count rs ≤ i → RulesPrinted rs before now
+    marking-last h = record {
       size = m .size;
       kept = m .kept;
-      rules = λ i h. record {
-        is = λ l. m .rules i h .is l ∙ ap suc (sym (value-kept before now (m .kept) 0 (rule-at rs i .after) (c .printable i h .job)));
-        small = m .rules i h .small;
+      rules = λ k b. record {
+        is = λ l. m .rules k (omega arith) b .is l ∙ ap suc (sym (value-kept before now (m .kept) 0 (rule-at rs k .after) (c .printable k b .job)));
+        small = m .rules k (omega arith) b .small;
       };
     }
 
 -- ALL FINGERPRINTS: those of the rows let rules have theirs, and stay
-module _ (n : ℕ) (rs : List ℕ) (list : GoodList n rs) (d : Rows) (before : List ℕ) (w : RowsPrinted n d before) where
+module _ (n : ℕ) (rs : List ℕ) (list : GoodList n rs) (d : Rows) (before : List ℕ) (w : Printed n d before) where
   pub can-print : CanPrint rs before
   can-print = record {
     jobs = n;
     list = list;
-    size = w .printed .size;
-    printable = λ i h. printable n d before (rule-at rs i .after) (list .jobs) (w .printed) (good-rule n rs list i h .after);
-    none = λ i h. w .none (48 + i) (omega arith) (omega (arith, list .few));
+    size = w .size;
+    printable = λ i h. printable n d before (rule-at rs i .after) (list .jobs) w (good-rule n rs list i h .after);
   }
 
   pub all-printed : (after : List ℕ) → RulesPrinted rs before after → AllPrinted rs n d after
   all-printed after r = record {
     jobs-printed = record {
       size = r .size;
-      value = λ j h. r .kept j (omega (arith, list .jobs)) ∙ w .printed .value j h;
-      power = λ j h. r .kept (24 + j) (omega (arith, list .jobs)) ∙ w .printed .power j h;
+      value = λ j h. r .kept j (omega (arith, list .jobs)) ∙ w .value j h;
+      power = λ j h. r .kept (24 + j) (omega (arith, list .jobs)) ∙ w .power j h;
     };
     rules-printed = r .rules;
   }

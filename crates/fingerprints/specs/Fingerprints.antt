@@ -39,10 +39,11 @@ pub record Printed (jobs : ℕ) (d : Rows) (prints : List ℕ) : Type 0 where
   pub value : (j : ℕ) → j < jobs → getD prints j 0 ≡ number (d j) % modulus
   pub power : (j : ℕ) → j < jobs → getD prints (24 + j) 0 ≡ base ^ length (d j) % modulus
 
--- the same in an array that has no others yet
-pub record RowsPrinted (jobs : ℕ) (d : Rows) (prints : List ℕ) : Type 0 where
-  pub printed : Printed jobs d prints
-  pub none : (k : ℕ) → 48 ≤ k → k < 300 → getD prints k 0 ≡ 0
+-- the same of the jobs whose rows have not moved since they were made
+pub record KnownPrints (jobs : ℕ) (d : Rows) (moved prints : List ℕ) : Type 0 where
+  pub size : length prints ≡ 300
+  pub value : (j : ℕ) → j < jobs → getD moved j 0 ≡ 0 → getD prints j 0 ≡ number (d j) % modulus
+  pub power : (j : ℕ) → j < jobs → getD moved j 0 ≡ 0 → getD prints (24 + j) 0 ≡ base ^ length (d j) % modulus
 
 -- by the fingerprints of jobs, that of a plan behind another whose fingerprint is given, and its power
 unfoldable pub value-from : (prints : List ℕ) → (left : ℕ) → (plan : List ℕ) → ℕ
@@ -73,13 +74,12 @@ pub record RulePrint (prints after : List ℕ) (r : ℕ) : Type 0 where
 abbrev pub Rule-prints : (rules prints : List ℕ) → Type 0
 Rule-prints rs ps = (i : ℕ) → i < rule-count rs → RulePrint ps (rule-at rs i .after) (getD ps (48 + i) 0)
 
--- the jobs after each rule have fingerprints, and no rule has one
+-- the jobs after each rule have fingerprints
 pub record CanPrint (rs prints : List ℕ) : Type 0 where
   pub jobs : ℕ
   pub list : GoodList jobs rs
   pub size : length prints ≡ 300
   pub printable : (i : ℕ) → i < rule-count rs → Printable prints (rule-at rs i .after)
-  pub none : (i : ℕ) → i < rule-count rs → getD prints (48 + i) 0 ≡ 0
 
 -- THE FINGERPRINTS OF RULES beside those of jobs, which are as they were
 pub record RulesPrinted (rs before after : List ℕ) : Type 0 where

@@ -8,7 +8,7 @@ ghost use mathlib.Core.Path.{_≡_};
 ghost use Prim.Native.Nat.{_<_};
 ghost use Rattle.rules.specs.Lists.{GoodList};
 ghost use Rattle.rows.specs.Region.{row, Within};
-ghost use Rattle.fingerprints.specs.Fingerprints.{modulus, IsJoined, IsPrint, Printable, PlanPrint, CanPrint, RowsPrinted, RulesPrinted, AllPrinted};
+ghost use Rattle.fingerprints.specs.Fingerprints.{modulus, IsJoined, IsPrint, Printed, Printable, PlanPrint, CanPrint, KnownPrints, RulesPrinted, AllPrinted};
 
 // The fingerprint of a row, and the power of the base by which it moves what stands in front.
 pub struct Print {
@@ -49,22 +49,25 @@ fn row_print(row: &[u8]) -> Print
     }
 }
 
-// The fingerprints of the rows of the first jobs of a region, and none of rules.
-fn row_prints(rows: &[u8], lens: &[u16; 24], jobs: usize) -> [u32; 300]
+// The fingerprints of the rows of the first jobs of a region. Those of rows that have not moved are there.
+fn row_prints(rows: &[u8], lens: &[u16; 24], jobs: usize, moved: &[u8; 24], prints: &mut [u32; 300])
     requires { ⌜ Within jobs (now lens) (now rows) ⌝ }
-    ensures { λ r. ⌜ RowsPrinted jobs (row (now (lens .entry)) (now (rows .entry))) r ⌝ }
+    requires { ⌜ KnownPrints jobs (row (now lens) (now rows)) (now moved) (now prints) ⌝ }
+    ensures { λ _. ⌜ Printed jobs (row (now (lens .entry)) (now (rows .entry))) (now (prints .exit)) ⌝ }
 {
-    let mut out = [0u32; 300];
     let mut j = 0;
     while j < jobs {
-        let start = 512 * j;
-        let end = start + lens[j] as usize;
-        let print = row_print(&rows[start..end]);
-        out[j] = print.value as u32;
-        out[24 + j] = print.power as u32;
+        let job = j;
         j += 1;
+        if moved[job] == 0 {
+            continue;
+        }
+        let start = 512 * job;
+        let end = start + lens[job] as usize;
+        let print = row_print(&rows[start..end]);
+        prints[job] = print.value as u32;
+        prints[24 + job] = print.power as u32;
     }
-    out
 }
 
 // The fingerprint of a plan, by those of its jobs' rows.
@@ -100,6 +103,7 @@ fn rule_prints(rules: &[u8], sums: &[u16; 252], many: &[u8; 24], prints: &mut [u
         i += 1;
         if sums[at] < 64 {
             if many[rule_job(rules, at)] == 0 {
+                prints[48 + at] = 0;
                 continue;
             }
         }
@@ -116,12 +120,14 @@ pub fn all_prints(
     rows: &[u8],
     lens: &[u16; 24],
     jobs: usize,
-) -> [u32; 300]
+    moved: &[u8; 24],
+    prints: &mut [u32; 300],
+)
     requires { ⌜ GoodList jobs (now rules) ⌝ }
     requires { ⌜ Within jobs (now lens) (now rows) ⌝ }
-    ensures { λ r. ⌜ AllPrinted (now (rules .entry)) jobs (row (now (lens .entry)) (now (rows .entry))) r ⌝ }
+    requires { ⌜ KnownPrints jobs (row (now lens) (now rows)) (now moved) (now prints) ⌝ }
+    ensures { λ _. ⌜ AllPrinted (now (rules .entry)) jobs (row (now (lens .entry)) (now (rows .entry))) (now (prints .exit)) ⌝ }
 {
-    let mut prints = row_prints(rows, lens, jobs);
-    rule_prints(rules, sums, many, &mut prints);
-    prints
+    row_prints(rows, lens, jobs, moved, prints);
+    rule_prints(rules, sums, many, prints);
 }

@@ -10,3 +10,4 @@ pub mod InOrder
 pub mod AgreeingRows
 pub mod NewHalf
 pub mod RoundLaws
+pub mod KnownRows

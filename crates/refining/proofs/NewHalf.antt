@@ -18,7 +18,7 @@ use Rattle.rows.specs.Region.{row, Within, old-half, new-half}
 use Rattle.rows.proofs.OneRow.{row-new, row-old}
 use Rattle.facts.specs.Facts.{norms-in, order-in, jobs-in, table-by}
 use Rattle.facts.proofs.Lookups.{jobs-few, place-job, place-rises}
-use Rattle.fingerprints.specs.Fingerprints.{Printed, AllPrinted}
+use Rattle.fingerprints.specs.Fingerprints.{Printed, KnownPrints, AllPrinted}
 use Rattle.settled.specs.Settled.{History, Settling, Settles}
 use Rattle.decomposing.specs.Candidates.{Earlier-rows, Decomposable, RowWritten}
 use Rattle.decomposing.proofs.LentParts.{middle-part}
@@ -47,6 +47,11 @@ pub record Growing (rs facts old before flags new stale moved after : List ℕ) 
 pub lent-within : (n m : ℕ) (old area : List ℕ) → n ≡ m → Within m old (old-half area) → Within n old (take 12288 area)
 unfolding old-half
 lent-within n m old area e h = subst (λ (k : ℕ). Within k old (take 12288 area)) (sym e) h
+
+pub lent-known : (n m : ℕ) (old area moved prints : List ℕ) → n ≡ m → KnownPrints m (row old (old-half area)) moved prints →
+    KnownPrints n (row old (take 12288 area)) moved prints
+unfolding old-half
+lent-known n m old area moved prints e h = subst (λ (k : ℕ). KnownPrints k (row old (take 12288 area)) moved prints) (sym e) h
 
 pub lent-printed : (rs : List ℕ) (n m : ℕ) (old area prints : List ℕ) → n ≡ m → AllPrinted rs n (row old (take 12288 area)) prints →
     AllPrinted rs m (row old (old-half area)) prints

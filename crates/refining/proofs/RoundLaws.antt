@@ -16,8 +16,10 @@ use Rattle.decompositions.proofs.FirstRows.{first-decomposition, first-covers}
 use Rattle.decompositions.proofs.Complete.{refinement-covers}
 use Rattle.decompositions.proofs.FinalRows.{final-rows}
 use Rattle.settled.specs.Settled.{History}
+use Rattle.fingerprints.specs.Fingerprints.{KnownPrints}
 use Rattle.refining.specs.Rounds.{FirstIn, CanKeep, Kept, RowsReady, NewRows, PrimesFound, Rounded, FinalIn}
 use Rattle.refining.proofs.Halves.{old-size}
+use Rattle.refining.proofs.KnownRows.{known-same}
 use Rattle.refining.proofs.AgreeingRows.{first-agree, decomposition-agree, refines-agree}
 
 -- a round: new primes are looked for beside the old rows as they were
@@ -137,6 +139,11 @@ module _ (rs facts sums next old new₀ flags new moved before after : List ℕ)
           refines = λ j h z. refined;
           same = λ j h z. sym (kept .old-are j h ∙ w .rows .others j h z);
         }
+
+    -- the fingerprints of rows that have not moved are those of the rows after the copy
+    pub rounds-known : (prints : List ℕ) → KnownPrints (jobs-in facts) (row new (new-half after)) moved prints →
+        KnownPrints (jobs-in facts) (row new (old-half area)) moved prints
+    rounds-known prints k = known-same (jobs-in facts) (row new (new-half after)) (row new (old-half area)) moved prints k (kept .old-are)
 
     -- THE MEASURE FALLS if a prime is new
     pub rounds-fall : out ≡ true →

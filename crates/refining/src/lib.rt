@@ -18,6 +18,7 @@ ghost use Rattle.bpa.specs.Norms.{norms, Good};
 ghost use Rattle.rules.specs.Places.{rule-count};
 ghost use Rattle.rows.specs.Region.{row, old-half, new-half};
 ghost use Rattle.facts.specs.Facts.{jobs-in, table-by, Tables};
+ghost use Rattle.fingerprints.specs.Fingerprints.{KnownPrints};
 ghost use Rattle.refining.specs.Rounds.{FirstIn, RowKept, CanKeep, Kept, RowsReady, NewRows, PrimesFound, Rounded, FinalIn};
 
 // A job in every place of a part of the rows.
@@ -88,7 +89,7 @@ fn keep(jobs: usize, new: &[u16; 24], moved: &[u8; 24], area: &mut [u8])
 }
 
 // The new rows of all jobs, in order. Jobs that are settled keep their rows. `moved` has the rows that are new: first those of the last round,
-// then those of this one.
+// then those of this one. The fingerprints of the others are there.
 fn new_rows(
     rules: &[u8],
     facts: &[u64; 121],
@@ -99,12 +100,14 @@ fn new_rows(
     new: &mut [u16; 24],
     moved: &mut [u8; 24],
     area: &mut [u8],
+    prints: &mut [u32; 300],
 )
     requires { ⌜ RowsReady (now rules) (now facts) (now sums) (now next) (now old) (now new) (now moved) (now area) ⌝ }
-    ensures { λ _. ⌜ NewRows (now (rules .entry)) (now (facts .entry)) (now (old .entry)) (now (new .exit)) (now (moved .exit)) (now (area .entry)) (now (area .exit)) ⌝ }
+    requires { ⌜ KnownPrints (jobs-in (now facts)) (row (now old) (old-half (now area))) (now moved) (now prints) ⌝ }
+    ensures { λ _. ⌜ NewRows (now (rules .entry)) (now (facts .entry)) (now (old .entry)) (now (new .exit)) (now (moved .exit)) (now (area .entry)) (now (area .exit)) × KnownPrints (jobs-in (now (facts .entry))) (row (now (new .exit)) (new-half (now (area .exit)))) (now (moved .exit)) (now (prints .exit)) ⌝ }
 {
     let jobs = job_count(facts);
-    let prints = all_prints(rules, sums, many, &area[0..12288], old, jobs);
+    all_prints(rules, sums, many, &area[0..12288], old, jobs, moved, prints);
     let mut stale = *moved;
     *moved = [0u8; 24];
     let mut row = [0u8; 512];
@@ -121,7 +124,7 @@ fn new_rows(
             facts,
             sums,
             next,
-            &prints,
+            prints,
             old,
             new,
             area,
@@ -173,11 +176,24 @@ fn round(
     new: &mut [u16; 24],
     moved: &mut [u8; 24],
     area: &mut [u8],
+    prints: &mut [u32; 300],
 ) -> bool
     requires { ⌜ RowsReady (now rules) (now facts) (now sums) (now next) (now old) (now new) (now moved) (now area) ⌝ }
-    ensures { λ r. ⌜ Rounded (now (rules .entry)) (now (facts .entry)) (now (old .entry)) (now (new .exit)) (now (moved .exit)) (now (area .entry)) (now (area .exit)) r ⌝ }
+    requires { ⌜ KnownPrints (jobs-in (now facts)) (row (now old) (old-half (now area))) (now moved) (now prints) ⌝ }
+    ensures { λ r. ⌜ Rounded (now (rules .entry)) (now (facts .entry)) (now (old .entry)) (now (new .exit)) (now (moved .exit)) (now (area .entry)) (now (area .exit)) r × KnownPrints (jobs-in (now (facts .entry))) (row (now (new .exit)) (new-half (now (area .exit)))) (now (moved .exit)) (now (prints .exit)) ⌝ }
 {
-    new_rows(rules, facts, sums, next, many, old, new, moved, area);
+    new_rows(
+        rules,
+        facts,
+        sums,
+        next,
+        many,
+        old,
+        new,
+        moved,
+        area,
+        prints,
+    );
     new_prime(facts, old, new, area)
 }
 
@@ -233,6 +249,7 @@ pub fn refine(
     let mut old = first_rows(rules, facts, sums, next, &mut area[12288..24576]);
     let mut new = old;
     let mut moved = [1u8; 24];
+    let mut prints = [0u32; 300];
     keep(jobs, &new, &moved, area);
     while round(
         rules,
@@ -244,6 +261,7 @@ pub fn refine(
         &mut new,
         &mut moved,
         area,
+        &mut prints,
     ) {
         keep(jobs, &new, &moved, area);
         old = new;

@@ -8,17 +8,16 @@ use Rattle.fingerprints.proofs.all_prints.Tie as tie
 rule-prints-requires : tie.Need-rule-prints-requires
 rule-prints-requires c κs =
     let first = c .before in
-    let s = first .before .before .before in
+    let s = first .before .before .before .before in
     let a = s .args in
-    can-print (a .jobs) (a .rules .now) (s .pre .0) (row (a .lens .now) (a .rows .now)) (first .row-prints .result) (first .row-prints .ensures)
+    can-print (a .jobs) (a .rules .now) (s .pre .0) (row (a .lens .now) (a .rows .now)) _ (first .row-prints .ensures)
 
 returns : tie.Need-returns
 returns c =
     let first = c .before .before in
-    let s = first .before .before .before in
+    let s = first .before .before .before .before in
     let a = s .args in
-    all-printed (a .jobs) (a .rules .now) (s .pre .0) (row (a .lens .now) (a .rows .now)) (first .row-prints .result) (first .row-prints .ensures) _
-    (c .rule-prints .ensures)
+    all-printed (a .jobs) (a .rules .now) (s .pre .0) (row (a .lens .now) (a .rows .now)) _ (first .row-prints .ensures) _ (c .rule-prints .ensures)
 
 pub all-prints-spec : {M : Type 1} → statement M
 all-prints-spec =

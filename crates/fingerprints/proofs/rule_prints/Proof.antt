@@ -6,12 +6,12 @@ use borrow.Author.Needs.{needs}
 use Rattle.rules.specs.Places.{rule-count}
 use Rattle.rules.proofs.ListLaws.{good-has-place, good-rule}
 use Rattle.fingerprints.proofs.Digits.{modulus-is}
-use Rattle.fingerprints.proofs.PrintedRules.{Marking, marking-first, after-printable, marking-more, marking-last}
+use Rattle.fingerprints.proofs.PrintedRules.{Marking, marking-first, after-printable, marking-none, marking-more, marking-last}
 use Rattle.fingerprints.proofs.rule_prints.Statement.{statement}
 use Rattle.fingerprints.proofs.rule_prints.Tie as tie
 
 abbrev Inv-loop : tie.InvT-loop
-Inv-loop rules sums many prints₀ total i₀ prints i = (total ≡ rule-count rules) × Marking rules prints₀ prints
+Inv-loop rules sums many prints₀ total i₀ prints i = (total ≡ rule-count rules) × Marking rules prints₀ prints i
 
 abbrev μ-loop : tie.MeasureT-loop
 μ-loop rules sums many prints₀ total i₀ prints i = total - i
@@ -59,7 +59,11 @@ loop-less : tie.Need-loop-less Inv-loop μ-loop
 loop-less c = omega (arith, c .before .before .before .before .before .loop-test .taken)
 
 loop-again : tie.Need-loop-again Inv-loop μ-loop
-loop-again c = c .before .before .before .before .before .before .loop .inv
+loop-again c =
+    let turn = c .before .before .before .before .before in
+    let s = start turn in
+    let v = turn .before .loop in
+    (v .inv .0, marking-none (s .args .rules .now) (s .args .prints .now) (s .pre) (v .prints) (v .i) (v .inv .1) (small turn))
 
 rule-after-requires : tie.Need-rule-after-requires Inv-loop μ-loop
 rule-after-requires c κs =
@@ -72,20 +76,20 @@ plan-print-requires c κs =
     let turn = c .before .before .before .before in
     let s = start turn in
     let v = turn .before .loop in
-    after-printable (s .args .rules .now) (s .args .prints .now) (s .pre) (v .prints) (v .inv .1) (v .i) (c .rule-after .result .now) (inside turn)
+    after-printable (s .args .rules .now) (s .args .prints .now) (s .pre) (v .prints) (v .i) (v .inv .1) (v .i) (c .rule-after .result .now) (inside turn)
     (c .rule-after .ensures)
 
 cast-prints : tie.Need-cast-prints Inv-loop μ-loop
 cast-prints c = omega (arith, c .before .plan-print .ensures .value-small, modulus-is)
 
-add-prints : tie.Need-add-prints Inv-loop μ-loop
-add-prints c = omega (arith, c .before .plan-print .ensures .value-small, modulus-is)
-
 add-prints-2 : tie.Need-add-prints-2 Inv-loop μ-loop
-add-prints-2 c = omega (arith, small (c .before .before .before .before .before .before))
+add-prints-2 c = omega (arith, c .before .plan-print .ensures .value-small, modulus-is)
 
-element-write-prints : tie.Need-element-write-prints Inv-loop μ-loop
-element-write-prints c = omega (arith, small (c .before .before .before .before .before .before))
+add-prints-3 : tie.Need-add-prints-3 Inv-loop μ-loop
+add-prints-3 c = omega (arith, small (c .before .before .before .before .before .before))
+
+element-write-prints-2 : tie.Need-element-write-prints-2 Inv-loop μ-loop
+element-write-prints-2 c = omega (arith, small (c .before .before .before .before .before .before))
 
 loop-less-2 : tie.Need-loop-less-2 Inv-loop μ-loop
 loop-less-2 c = omega (arith, c .before .before .before .before .before .before .loop-test .taken)
@@ -98,7 +102,7 @@ loop-again-2 c =
     let s = start turn in
     let v = turn .before .loop in (
       v .inv .0,
-      marking-more (s .args .rules .now) (s .args .prints .now) (s .pre) (v .prints) (v .inv .1) (v .i) (after .rule-after .result .now)
+      marking-more (s .args .rules .now) (s .args .prints .now) (s .pre) (v .prints) (v .i) (v .inv .1) (after .rule-after .result .now)
           (print .plan-print .result .value) (print .plan-print .result .power) (inside turn) (small turn) (after .rule-after .ensures)
           (print .plan-print .ensures),
     )
@@ -106,7 +110,8 @@ loop-again-2 c =
 returns : tie.Need-returns Inv-loop μ-loop
 returns c =
     let s = c .before .before .before .before in
-    marking-last (s .args .rules .now) (s .args .prints .now) (s .pre) (c .before .loop .prints) (c .before .loop .inv .1)
+    marking-last (s .args .rules .now) (s .args .prints .now) (s .pre) (c .before .loop .prints) (c .before .loop .i) (c .before .loop .inv .1)
+    (omega (arith, c .before .loop .inv .0, c .loop-test .left))
 
 pub rule-prints-spec : {M : Type 1} → statement M
 rule-prints-spec =
@@ -121,15 +126,18 @@ rule-prints-spec =
     element-copy-out-if1
     rule-job-requires
     element-copy-out-if2
+    (λ c. omega (arith, small (c .before .before .before .before .before)))  -- add-prints
+    (λ c. omega (arith, small (c .before .before .before .before .before)))  -- mul-prints
+    (λ c. omega (arith, small (c .before .before .before .before .before)))  -- element-write-prints
     loop-less
     loop-again
     rule-after-requires
     plan-print-requires
     cast-prints
-    add-prints
     add-prints-2
-    (λ c. omega (arith, small (c .before .before .before .before .before .before)))  -- mul-prints
-    element-write-prints
+    add-prints-3
+    (λ c. omega (arith, small (c .before .before .before .before .before .before)))  -- mul-prints-2
+    element-write-prints-2
     loop-less-2
     loop-again-2
     returns)

@@ -8,61 +8,68 @@ use lib.ListN.{length, getD, set, length-take, length-drop}
 use lib.Seq.{slice}
 use Rattle.area.specs.Areas.{put}
 use Rattle.rules.specs.Lists.{GoodList}
+use Rattle.rows.specs.Region.{row, old-half, new-half}
+use Rattle.refining.specs.Rounds.{NewRows}
 use Rattle.facts.specs.Facts.{order-in, jobs-in}
 use Rattle.decomposing.proofs.LentParts.{middle-part}
-use Rattle.refining.proofs.NewHalf.{Growing, lent-within, lent-printed, job-small, few}
+use Rattle.refining.proofs.NewHalf.{Growing, lent-within, lent-known, lent-printed, job-small, few}
+use Rattle.refining.proofs.KnownRows.{known-unmoved}
 use Rattle.refining.proofs.NewHalf.{growing-first, growing-settling, growing-settled, growing-asks, growing-same, growing-more, growing-last}
 use Rattle.refining.proofs.new_rows.Statement.{statement}
 use Rattle.refining.proofs.new_rows.Tie as tie
 
 abbrev Inv-loop : tie.InvT-loop
-Inv-loop rules facts sums next many old new₀ moved₀ area₀ jobs prints stale₀ row₀ place₀ new moved area stale row place =
+Inv-loop rules facts sums next many old new₀ moved₀ area₀ prints jobs stale₀ row₀ place₀ new moved area stale row place =
     (place ≤ jobs) × (length row ≡ 512) × Growing rules facts old area₀ stale₀ new stale moved area place
 
 abbrev μ-loop : tie.MeasureT-loop
-μ-loop rules facts sums next many old new₀ moved₀ area₀ jobs prints stale₀ row₀ place₀ new moved area stale row place = jobs - place
+μ-loop rules facts sums next many old new₀ moved₀ area₀ prints jobs stale₀ row₀ place₀ new moved area stale row place = jobs - place
 
 part-all-prints-end : tie.Need-part-all-prints-end Inv-loop μ-loop
-part-all-prints-end c = omega (arith, c .before .before .before .before .pre .size)
+part-all-prints-end c = omega (arith, c .before .before .before .before .pre .0 .size)
 
 all-prints-requires : tie.Need-all-prints-requires Inv-loop μ-loop
 all-prints-requires c κs =
-    let k = c .before .before in
+    let k = c .before .before .before .before in
     let s = k .before .before .before in
     let a = s .args in (
-      subst (λ (n : ℕ). GoodList n (a .rules .now)) (sym (k .job-count .ensures)) (s .pre .tables .list),
-      lent-within (k .job-count .result) (jobs-in (a .facts .now)) (a .old .now) (a .area .now) (k .job-count .ensures) (s .pre .old-within),
+      subst (λ (n : ℕ). GoodList n (a .rules .now)) (sym (k .job-count .ensures)) (s .pre .0 .tables .list),
+      (
+        lent-within (k .job-count .result) (jobs-in (a .facts .now)) (a .old .now) (a .area .now) (k .job-count .ensures) (s .pre .0 .old-within),
+        lent-known (k .job-count .result) (jobs-in (a .facts .now)) (a .old .now) (a .area .now) (a .moved .now) (a .prints .now)
+            (k .job-count .ensures) (s .pre .1),
+      ),
     )
 
 loop-holds : tie.Need-loop-holds Inv-loop μ-loop
 loop-holds c =
-    let s = c .before .before .before .before .before .before .before .before in
+    let s = c .before .before .before .before .before .before .before .before .before .before in
     let a = s .args in (
       omega arith,
       refl,
       growing-first (a .rules .now) (a .sums .now) (a .next .now) (a .facts .now) (a .old .now) (a .new .now) (a .moved .now) (a .area .now)
-          (s .pre),
+          (s .pre .0),
     )
 
 -- THE PLACE AND THE JOB THERE
 abbrev start : tie.In-loop Inv-loop μ-loop → tie.Start Inv-loop μ-loop
-start t = t .before .before .before .before .before .before .before .before .before .before
+start t = t .before .before .before .before .before .before .before .before .before .before .before .before
 
 place-below : (t : tie.In-loop Inv-loop μ-loop) → t .before .loop .place < jobs-in (start t .args .facts .now)
-place-below t = omega (arith, t .loop-test .taken, t .before .before .before .before .before .before .before .job-count .ensures)
+place-below t = omega (arith, t .loop-test .taken, t .before .before .before .before .before .before .before .before .before .job-count .ensures)
 
 jobs-are-few : (t : tie.In-loop Inv-loop μ-loop) → jobs-in (start t .args .facts .now) ≤ 24
 jobs-are-few t =
     let s = start t in
     let a = s .args in
-    few (a .rules .now) (a .sums .now) (a .next .now) (a .facts .now) (a .old .now) (a .new .now) (a .moved .now) (a .area .now) (s .pre)
+    few (a .rules .now) (a .sums .now) (a .next .now) (a .facts .now) (a .old .now) (a .new .now) (a .moved .now) (a .area .now) (s .pre .0)
 
 job-below : (p : tie.After-job-at Inv-loop μ-loop) → p .job-at .result < jobs-in (start (p .before) .args .facts .now)
 job-below p =
-    let k = p .before .before .before .before .before .before .before .before in
+    let k = p .before .before .before .before .before .before .before .before .before .before in
     let s = k .before .before .before in
     let a = s .args in
-    job-small (a .rules .now) (a .sums .now) (a .next .now) (a .facts .now) (a .old .now) (a .new .now) (a .moved .now) (a .area .now) (s .pre)
+    job-small (a .rules .now) (a .sums .now) (a .next .now) (a .facts .now) (a .old .now) (a .new .now) (a .moved .now) (a .area .now) (s .pre .0)
     (k .job-count .result) (p .before .before .loop .place) (p .job-at .result) (k .job-count .ensures)
     (p .before .loop-test .taken) (p .job-at .ensures)
 
@@ -82,7 +89,7 @@ settled-requires c κs =
     let s = start (p .before) in
     let a = s .args in
     growing-settling (a .rules .now) (a .sums .now) (a .next .now) (a .facts .now) (a .old .now) (a .new .now) (a .moved .now) (a .area .now)
-    (s .pre) (v .new) (v .stale) (v .moved) (v .area) (v .place) (v .inv .2) (p .job-at .result) (p .job-at .ensures) (place-below (p .before))
+    (s .pre .0) (v .new) (v .stale) (v .moved) (v .area) (v .place) (v .inv .2) (p .job-at .result) (p .job-at .ensures) (place-below (p .before))
 
 loop-less : tie.Need-loop-less Inv-loop μ-loop
 loop-less c = omega (arith, c .before .before .before .before .before .before .loop-test .taken)
@@ -96,7 +103,7 @@ loop-again c =
       omega (arith, p .before .loop-test .taken),
       v .inv .1,
       growing-settled (a .rules .now) (a .sums .now) (a .next .now) (a .facts .now) (a .old .now) (a .new .now) (a .moved .now) (a .area .now)
-          (s .pre) (v .new) (v .stale) (v .moved) (v .area) (v .place) (v .inv .2) (place-below (p .before)) (p .job-at .result)
+          (s .pre .0) (v .new) (v .stale) (v .moved) (v .area) (v .place) (v .inv .2) (place-below (p .before)) (p .job-at .result)
           (p .job-at .ensures) (c .before .settled .result) (c .before .settled .ensures) (c .if1 .taken),
     )
 
@@ -108,12 +115,12 @@ new-row-requires c κs =
     let p = c .before .before .before .before .before .before .before .before .before in
     let v = p .before .before .loop in
     let w = p .before .before .before .before .before .all-prints in
-    let jobs = p .before .before .before .before .before .before .before .before .job-count in
+    let jobs = p .before .before .before .before .before .before .before .before .before .before .job-count in
     let s = start (p .before) in
     let a = s .args in (
       growing-asks (a .rules .now) (a .sums .now) (a .next .now) (a .facts .now) (a .old .now) (a .new .now) (a .moved .now) (a .area .now)
-          (s .pre) (v .new) (v .stale) (v .moved) (v .area) (v .place) (v .inv .2) (w .result)
-          (lent-printed (a .rules .now) (jobs .result) (jobs-in (a .facts .now)) (a .old .now) (a .area .now) (w .result) (jobs .ensures) (w .ensures))
+          (s .pre .0) (v .new) (v .stale) (v .moved) (v .area) (v .place) (v .inv .2) (w .last .1 .1 .1 .1 .1 .1 .1 .0)
+          (lent-printed (a .rules .now) (jobs .result) (jobs-in (a .facts .now)) (a .old .now) (a .area .now) (w .last .1 .1 .1 .1 .1 .1 .1 .0) (jobs .ensures) (w .ensures))
           (place-below (p .before)),
       v .inv .1,
     )
@@ -126,7 +133,7 @@ row-len-requires c κs = job-few (c .before .before .before .before .before .bef
 
 -- the end of the old row
 old-short : (p : tie.After-job-at Inv-loop μ-loop) → getD (start (p .before) .args .old .now) (p .job-at .result) 0 ≤ 512
-old-short p = start (p .before) .pre .old-within .short (p .job-at .result) (job-below p)
+old-short p = start (p .before) .pre .0 .old-within .short (p .job-at .result) (job-below p)
 
 add-end : tie.Need-add-end Inv-loop μ-loop
 add-end c =
@@ -163,7 +170,7 @@ loop-again-2 c =
       omega (arith, p .before .loop-test .taken),
       n .ensures .size,
       growing-same (a .rules .now) (a .sums .now) (a .next .now) (a .facts .now) (a .old .now) (a .new .now) (a .moved .now) (a .area .now)
-          (s .pre) (v .new) (v .stale) (v .moved) (v .area) (v .place) (v .inv .2) (place-below (p .before)) (p .job-at .result)
+          (s .pre .0) (v .new) (v .stale) (v .moved) (v .area) (v .place) (v .inv .2) (place-below (p .before)) (p .job-at .result)
           (p .job-at .ensures) out (n .result .from) (n .result .to) (r .result) (512 * p .job-at .result + r .result) (n .ensures) (r .ensures .is) refl
           (c .before .same-row .ensures .yes (c .if2 .taken)),
     )
@@ -261,21 +268,29 @@ loop-again-3 c =
           (set (v .stale) j 1) (set (v .moved) j 1) l (v .place + 1))
           (sym wrote)
           (growing-more (a .rules .now) (a .sums .now) (a .next .now) (a .facts .now) (a .old .now) (a .new .now) (a .moved .now)
-          (a .area .now) (s .pre) (v .new) (v .stale) (v .moved) (v .area) (v .place) (v .inv .2) out from to (place-below (p .before))
+          (a .area .now) (s .pre .0) (v .new) (v .stale) (v .moved) (v .area) (v .place) (v .inv .2) out from to (place-below (p .before))
           (n .ensures))),
     )
 
 same-length : tie.Need-same-length Inv-loop μ-loop
-same-length c = c .before .loop .inv .2 .size ∙ sym (c .before .before .before .before .before .before .before .before .before .before .pre .size)
+same-length c = c .before .loop .inv .2 .size ∙ sym (c .before .before .before .before .before .before .before .before .before .before .before .before .pre .0 .size)
 
 returns : tie.Need-returns Inv-loop μ-loop
 returns c =
-    let s = c .before .before .before .before .before .before .before .before .before .before in
+    let s = c .before .before .before .before .before .before .before .before .before .before .before .before in
     let a = s .args in
     let v = c .before .loop in
-    let k = c .before .before .before .before .before .before .before .job-count in
+    let k = c .before .before .before .before .before .before .before .before .before .job-count in
+    let w = c .before .before .before .before .all-prints in
+    let rows =
     growing-last (a .rules .now) (a .sums .now) (a .next .now) (a .facts .now) (a .old .now) (a .new .now) (a .moved .now) (a .area .now)
-    (s .pre) (v .new) (v .stale) (v .moved) (v .area) (v .place) (omega (arith, k .ensures, c .loop-test .left)) (v .inv .2)
+    (s .pre .0) (v .new) (v .stale) (v .moved) (v .area) (v .place) (omega (arith, k .ensures, c .loop-test .left)) (v .inv .2) in (
+      rows,
+      known-unmoved (jobs-in (a .facts .now)) (row (a .old .now) (old-half (a .area .now))) (row (v .new) (new-half (v .area))) (v .moved)
+          (w .last .1 .1 .1 .1 .1 .1 .1 .0)
+          (lent-printed (a .rules .now) (k .result) (jobs-in (a .facts .now)) (a .old .now) (a .area .now) (w .last .1 .1 .1 .1 .1 .1 .1 .0) (k .ensures)
+          (w .ensures) .jobs-printed) (rows .others),
+    )
 
 pub new-rows-spec : {M : Type 1} → statement M
 new-rows-spec =

@@ -4,18 +4,21 @@ use mathlib.Core.List.{List, _++_}
 use borrow.Author.Needs.{needs}
 use lib.ListN.{length, take, drop}
 use Rattle.rows.specs.Region.{row, old-half}
-use Rattle.facts.specs.Facts.{table-by}
+use Rattle.fingerprints.specs.Fingerprints.{KnownPrints}
+use Rattle.facts.specs.Facts.{jobs-in, table-by}
 use Rattle.decompositions.proofs.NoNewPrime.{composite}
 use Rattle.refining.proofs.Halves.{lent-new, new-size, new-given, given-size}
-use Rattle.refining.proofs.RoundLaws.{BetweenRounds, first-keep, rounds-begin, rounds-keep, rounds-go-on, rounds-fall, rounds-end}
+use Rattle.refining.proofs.RoundLaws.{BetweenRounds, first-keep, rounds-begin, rounds-keep, rounds-go-on, rounds-known, rounds-fall, rounds-end}
+use Rattle.refining.proofs.KnownRows.{known-none}
 use Rattle.refining.proofs.refine.Statement.{statement}
 use Rattle.refining.proofs.refine.Tie as tie
 
 abbrev Inv-loop : tie.InvT-loop
-Inv-loop rules facts sums next area₀ jobs many old₀ new₀ moved₀ area old new moved = BetweenRounds rules facts sums next old new moved area
+Inv-loop rules facts sums next area₀ jobs many old₀ new₀ moved₀ prints₀ area old new moved prints =
+    BetweenRounds rules facts sums next old new moved area × KnownPrints (jobs-in facts) (row old (old-half area)) moved prints
 
 abbrev μ-loop : tie.MeasureT-loop
-μ-loop rules facts sums next area₀ jobs many old₀ new₀ moved₀ area old new moved = composite (table-by facts rules) (row old (old-half area))
+μ-loop rules facts sums next area₀ jobs many old₀ new₀ moved₀ prints₀ area old new moved prints = composite (table-by facts rules) (row old (old-half area))
 
 first-rows-requires : tie.Need-first-rows-requires Inv-loop μ-loop
 first-rows-requires c κs =
@@ -45,63 +48,69 @@ loop-holds c =
     let a = s .args in
     let size = s .pre .1 .1 in
     let region = f .last .1 .1 .1 .1 .0 in
-    let area = take 12288 (a .area .now) ++ (region ++ drop 12288 (drop 12288 (a .area .now))) in
-    rounds-begin (a .rules .now) (a .facts .now) (a .sums .now) (a .next .now) (s .pre .0) (f .result) area (k .last .1 .1 .1 .0) (n .result)
-    (n .ensures) (k .ensures) (given-size (a .area .now) region size (f .ensures .within .size)) region (new-given (a .area .now) region size)
-    (f .ensures)
+    let area = take 12288 (a .area .now) ++ (region ++ drop 12288 (drop 12288 (a .area .now))) in (
+      rounds-begin (a .rules .now) (a .facts .now) (a .sums .now) (a .next .now) (s .pre .0) (f .result) area (k .last .1 .1 .1 .0) (n .result)
+          (n .ensures) (k .ensures) (given-size (a .area .now) region size (f .ensures .within .size)) region (new-given (a .area .now) region size)
+          (f .ensures),
+      known-none (jobs-in (a .facts .now)) _ (s .pre .0 .list .jobs),
+    )
 
 round-requires : tie.Need-round-requires Inv-loop μ-loop
-round-requires c κs = c .before .before .before .before .before .loop .inv .ready
+round-requires c κs = let v = c .before .before .before .before .before .before .loop in (v .inv .0 .ready, v .inv .1)
 
 keep-requires-2 : tie.Need-keep-requires-2 Inv-loop μ-loop
 keep-requires-2 c κs =
     let w = c .before .before .before .before .before .before .round in
-    let l = c .before .before .before .before .before .before .before .before .before .before .before .before in
+    let l = c .before .before .before .before .before .before .before .before .before .before .before .before .before in
     let v = l .loop in
     let n = l .before .before .before .before .before .before .before .before .before .before .before .before .job-count in
     let a = l .before .before .before .before .before .before .before .before .before .before .before .before .before .before .before .args in
     rounds-keep (a .rules .now) (a .facts .now) (a .sums .now) (a .next .now) (v .old) (v .new) (v .moved) (w .last .1 .1 .1 .1 .1 .1 .0)
-    (w .last .1 .1 .1 .1 .1 .1 .1 .0) (v .area) (w .last .1 .1 .1 .1 .1 .1 .1 .1 .0) (w .result) (v .inv) (w .ensures) (n .result) (n .ensures)
+    (w .last .1 .1 .1 .1 .1 .1 .1 .0) (v .area) (w .last .1 .1 .1 .1 .1 .1 .1 .1 .0) (w .result) (v .inv .0) (w .ensures .0) (n .result) (n .ensures)
 
 loop-less : tie.Need-loop-less Inv-loop μ-loop
 loop-less c =
     let k = c .before .before .keep2 in
     let w = c .before .before .before .before .before .before .before .before .before .round in
-    let l = c .before .before .before .before .before .before .before .before .before .before .before .before .before .before .before in
+    let l = c .before .before .before .before .before .before .before .before .before .before .before .before .before .before .before .before in
     let v = l .loop in
     let n = l .before .before .before .before .before .before .before .before .before .before .before .before .job-count in
     let a = l .before .before .before .before .before .before .before .before .before .before .before .before .before .before .before .args in
     rounds-fall (a .rules .now) (a .facts .now) (a .sums .now) (a .next .now) (v .old) (v .new) (v .moved) (w .last .1 .1 .1 .1 .1 .1 .0)
-    (w .last .1 .1 .1 .1 .1 .1 .1 .0) (v .area) (w .last .1 .1 .1 .1 .1 .1 .1 .1 .0) (w .result) (v .inv) (w .ensures) (k .last .1 .1 .1 .0)
+    (w .last .1 .1 .1 .1 .1 .1 .1 .0) (v .area) (w .last .1 .1 .1 .1 .1 .1 .1 .1 .0) (w .result) (v .inv .0) (w .ensures .0) (k .last .1 .1 .1 .0)
     (n .result) (n .ensures) (k .ensures) (c .before .before .before .before .before .before .if1 .taken)
 
 loop-again : tie.Need-loop-again Inv-loop μ-loop
 loop-again c =
     let k = c .before .before .keep2 in
     let w = c .before .before .before .before .before .before .before .before .before .round in
-    let l = c .before .before .before .before .before .before .before .before .before .before .before .before .before .before .before in
+    let l = c .before .before .before .before .before .before .before .before .before .before .before .before .before .before .before .before in
     let v = l .loop in
     let n = l .before .before .before .before .before .before .before .before .before .before .before .before .job-count in
-    let a = l .before .before .before .before .before .before .before .before .before .before .before .before .before .before .before .args in
-    rounds-go-on (a .rules .now) (a .facts .now) (a .sums .now) (a .next .now) (v .old) (v .new) (v .moved) (w .last .1 .1 .1 .1 .1 .1 .0)
-    (w .last .1 .1 .1 .1 .1 .1 .1 .0) (v .area) (w .last .1 .1 .1 .1 .1 .1 .1 .1 .0) (w .result) (v .inv) (w .ensures) (k .last .1 .1 .1 .0)
-    (n .result) (n .ensures) (k .ensures)
+    let a = l .before .before .before .before .before .before .before .before .before .before .before .before .before .before .before .args in (
+      rounds-go-on (a .rules .now) (a .facts .now) (a .sums .now) (a .next .now) (v .old) (v .new) (v .moved) (w .last .1 .1 .1 .1 .1 .1 .0)
+          (w .last .1 .1 .1 .1 .1 .1 .1 .0) (v .area) (w .last .1 .1 .1 .1 .1 .1 .1 .1 .0) (w .result) (v .inv .0) (w .ensures .0) (k .last .1 .1 .1 .0)
+          (n .result) (n .ensures) (k .ensures),
+      rounds-known (a .rules .now) (a .facts .now) (a .sums .now) (a .next .now) (v .old) (v .new) (v .moved) (w .last .1 .1 .1 .1 .1 .1 .0)
+          (w .last .1 .1 .1 .1 .1 .1 .1 .0) (v .area) (w .last .1 .1 .1 .1 .1 .1 .1 .1 .0) (w .result) (v .inv .0) (w .ensures .0) (k .last .1 .1 .1 .0)
+          (n .result) (n .ensures) (k .ensures) (w .last .1 .1 .1 .1 .1 .1 .1 .1 .1 .0) (w .ensures .1),
+    )
 
 same-length : tie.Need-same-length Inv-loop μ-loop
 same-length c =
-    let l = c .before .before .before .before .before .before .before .before .before in
+    let l = c .before .before .before .before .before .before .before .before .before .before in
     let s = l .before .before .before .before .before .before .before .before .before .before .before .before .before .before .before in
-    c .before .before .before .round .ensures .rows .size ∙ sym (s .pre .1 .1)
+    c .before .before .before .round .ensures .0 .rows .size ∙ sym (s .pre .1 .1)
 
 returns : tie.Need-returns Inv-loop μ-loop
 returns c =
     let w = c .before .before .before .round in
-    let l = c .before .before .before .before .before .before .before .before .before in
+    let l = c .before .before .before .before .before .before .before .before .before .before in
     let v = l .loop in
     let s = l .before .before .before .before .before .before .before .before .before .before .before .before .before .before .before in
     let a = s .args in
     rounds-end (a .rules .now) (a .facts .now) (a .sums .now) (a .next .now) (v .old) (v .new) (v .moved) (w .last .1 .1 .1 .1 .1 .1 .0)
-    (w .last .1 .1 .1 .1 .1 .1 .1 .0) (v .area) (w .last .1 .1 .1 .1 .1 .1 .1 .1 .0) (w .result) (v .inv) (w .ensures) (s .pre .1 .0) (c .if1 .left)
+    (w .last .1 .1 .1 .1 .1 .1 .1 .0) (v .area) (w .last .1 .1 .1 .1 .1 .1 .1 .1 .0) (w .result) (v .inv .0) (w .ensures .0) (s .pre .1 .0) (c .if1 .left)
 
 pub refine-spec : {M : Type 1} → statement M
 refine-spec =
