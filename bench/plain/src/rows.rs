@@ -3,7 +3,7 @@
 use crate::index::{first_written, Index};
 use crate::region::{split, Rows, ROW};
 use crate::steps::Meter;
-use crate::table::{Table, JOBS};
+use crate::table::{Table, JOBS, RULES};
 
 pub fn compare(image: &[u8], left: &[u8], right: &[u8], space: &mut [u8]) -> i32 {
     compare_counted(image, left, right, space, &mut ())
@@ -35,6 +35,8 @@ struct Print {
 }
 
 const BASE: u32 = 2654435769;
+/// A prime, so that few unequal rows have equal fingerprints, however they are made.
+const MODULUS: u64 = 4294967291;
 const NOTHING: Print = Print { value: 0, power: 1 };
 
 impl Print {
@@ -43,15 +45,17 @@ impl Print {
     }
 
     fn join(self, behind: Print) -> Print {
+        let power = u64::from(behind.power);
         Print {
-            value: self.value.wrapping_mul(behind.power).wrapping_add(behind.value),
-            power: self.power.wrapping_mul(behind.power),
+            value: ((u64::from(self.value) * power + u64::from(behind.value)) % MODULUS) as u32,
+            power: ((u64::from(self.power) * power) % MODULUS) as u32,
         }
     }
 }
 
-/// What is left by a rule is told apart by its fingerprint from this norm on.
+/// What a rule leaves has a fingerprint from this norm on, and if its job has so many rules.
 const LONG: u16 = 64;
+const MANY: usize = 12;
 
 /// A job y, and a job x with a tail of new primes behind it that makes up the norm of y.
 struct Pair<'p> {
@@ -69,8 +73,9 @@ struct Engine<'t, 'a> {
     marks: [u64; JOBS],
     old: Rows<'a>,
     new: Rows<'a>,
-    // of the old rows
+    // of the old rows, and of what rules leave by them
     prints: [Print; JOBS],
+    rule_prints: [Option<Print>; RULES],
     // the jobs whose row is new in the last round
     moved: [bool; JOBS],
 }
@@ -87,7 +92,7 @@ impl<'t, 'a> Engine<'t, 'a> {
             new.fill(j as u8, index.order[0], norms[j]);
         }
         let marks = index.marks();
-        Engine { index, marks, old, new, prints: [NOTHING; JOBS], moved: [true; JOBS] }
+        Engine { index, marks, old, new, prints: [NOTHING; JOBS], rule_prints: [None; RULES], moved: [true; JOBS] }
     }
 
     /// The new rows become the old ones.
@@ -101,9 +106,8 @@ impl<'t, 'a> Engine<'t, 'a> {
     fn round<M: Meter>(&mut self, meter: &mut M) -> bool {
         meter.round();
         let jobs = self.index.table.jobs;
-        for j in 0..jobs {
-            self.prints[j] = self.old.of(j as u8).iter().fold(NOTHING, |print, &k| print.join(Print::of_job(k)));
-        }
+        self.print_rows();
+        self.print_rules();
         let mut stale = self.moved;
         self.moved = [false; JOBS];
         let mut row = [0; 1 + ROW];
@@ -120,6 +124,23 @@ impl<'t, 'a> Engine<'t, 'a> {
             }
         }
         (0..jobs as u8).any(|j| self.new.alone(j) && !self.old.alone(j))
+    }
+
+    /// The fingerprints of rows that are new.
+    fn print_rows(&mut self) {
+        for j in (0..self.index.table.jobs).filter(|&j| self.moved[j]) {
+            self.prints[j] = self.old.of(j as u8).iter().fold(NOTHING, |print, &k| print.join(Print::of_job(k)));
+        }
+    }
+
+    fn print_rules(&mut self) {
+        for j in 0..self.index.table.jobs {
+            let rules = self.index.rules_of(j as u8);
+            let many = rules.len() >= MANY;
+            for &r in rules.iter().filter(|&&r| many || self.index.row_norms[r as usize] >= LONG) {
+                self.rule_prints[r as usize] = Some(self.print_of(self.index.table.after(r as usize)));
+            }
+        }
     }
 
     /// Whether a job keeps its row: it is prime, or neither its row nor that of a job in its rules, or in the rules of the
@@ -144,8 +165,8 @@ impl<'t, 'a> Engine<'t, 'a> {
         let len = 1 + self.new.expand(table.after(lowering[y as usize] as usize), &mut row[1..]);
         let (mut at, mut norm) = (len, norms[y as usize] - 1);
         for &x in order[..place].iter().rev() {
-            let begin_alike = self.old.of(x)[0] == self.old.of(y)[0];
-            if !begin_alike || self.marks[x as usize] != self.marks[y as usize] || !self.new.alone(x) {
+            let begin_alike = || self.old.of(x)[0] == self.old.of(y)[0];
+            if !self.new.alone(x) || !begin_alike() || self.marks[x as usize] != self.marks[y as usize] {
                 continue;
             }
             while norm + 1 > norms[x as usize] {
@@ -208,8 +229,10 @@ impl<'t, 'a> Engine<'t, 'a> {
             return false;
         }
         let (mine, other) = (table.after(r), table.after(s));
-        if row_norms[r] >= LONG && self.print_of(mine).value != self.print_of(other).join(pair.print).value {
-            return false;
+        if let (Some(left), Some(right)) = (self.rule_prints[r], self.rule_prints[s]) {
+            if left.value != right.join(pair.print).value {
+                return false;
+            }
         }
         meter.row();
         if row_norms[r] < norms[pair.y as usize] {
