@@ -6,12 +6,11 @@ use mathlib.Core.List.{List, [], _∷_, _++_, append-nil}
 use Prim.Native.Nat.{ℕ, _+_, _-_, _<_}
 use native.Mathlib.Omega.{arith}
 use lib.Dec.{ltb}
-use lib.ListN.{length, getD}
+use lib.ListN.{getD}
 use borrow.Author.Tests.{lt-ltb}
 use Rattle.bpa.specs.Plans.{all-below}
 use Rattle.bpa.specs.Method.{Rows, expand}
 use Rattle.bpa.proofs.Basics.Cases.{and-both}
-use Rattle.bpa.proofs.Basics.JobsBelow.{below-at}
 use Rattle.rules.specs.Places.{rule-at, rule-count}
 use Rattle.rules.proofs.ListLaws.{good-rule}
 use Rattle.rules.specs.Lists.{GoodList}

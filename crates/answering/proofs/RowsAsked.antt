@@ -3,12 +3,11 @@
 use mathlib.Core.Path.{_≡_, refl, sym, ap, _∙_}
 use mathlib.Core.Bool.{Bool, true, false}
 use mathlib.Core.List.{List}
-use Prim.Native.Nat.{ℕ, _+_, _-_, _≤_}
+use Prim.Native.Nat.{ℕ}
 use native.Mathlib.Omega.{arith}
 use lib.ListN.{length, take, drop, length-drop}
-use lib.Seq.{take-all, slice}
+use lib.Seq.{take-all}
 use Rattle.bpa.specs.Method.{Rows}
-use Rattle.area.proofs.Parts.{part}
 use Rattle.rows.specs.Region.{row, old-half, new-half}
 use Rattle.answering.specs.Agreeing.{rows-for, rest-for, Printing, Halves, Pairing}
 
@@ -20,16 +19,6 @@ old-lent area = refl
 pub new-lent : (area : List ℕ) → length area ≡ 24576 → take 12288 (drop 12288 area) ≡ new-half area
 unfolding new-half
 new-lent area h = take-all 12288 (drop 12288 area) (omega (arith, length-drop 12288 area))
-
--- a part of it
-pub part-lent : (area : List ℕ) (from to : ℕ) → from ≤ to → take (to - from) (drop from area) ≡ slice from to area
-part-lent area from to h =
-    let e : from + (to - from) ≡ to = omega arith in
-    part from (to - from) area ∙ ap (λ (n : ℕ). slice from n area) e
-
--- the tail, in the slice of X and its tail
-pub tail-lent : (parts : List ℕ) → take (length parts - 1) (drop 1 parts) ≡ drop 1 parts
-tail-lent parts = take-all (length parts - 1) (drop 1 parts) (omega (arith, length-drop 1 parts))
 
 -- the rows that are asked for, and what stands behind X by them
 pub rows-new : (d : Rows) (new region half : List ℕ) (falls : Bool) → falls ≡ true → region ≡ half →

@@ -1,12 +1,23 @@
--- A part of a list, by its length and by its end. Assumes nothing.
-use mathlib.Core.Path.{_≡_}
+-- A part of a list, by its length and by its end, as the code lends it. Assumes nothing.
+use mathlib.Core.Path.{_≡_, ap, _∙_}
 use mathlib.Core.List.{List, [], _∷_}
-use Prim.Native.Nat.{ℕ, zero, suc, _+_}
+use Prim.Native.Nat.{ℕ, zero, suc, _+_, _-_, _≤_}
 use native.Mathlib.Nat.{zero-add, suc-add}
-use lib.ListN.{take, drop}
-use lib.Seq.{take-nil, slice}
+use native.Mathlib.Omega.{arith}
+use lib.ListN.{length, take, drop, length-drop}
+use lib.Seq.{take-nil, take-all, slice}
 
 pub part : (a c : ℕ) (l : List ℕ) → take c (drop a l) ≡ slice a (a + c) l
 part zero c l = rw (zero-add c)
 part (suc a) c [] = rw (suc-add a c) (take-nil c)
 part (suc a) c (x ∷ l) = rw (suc-add a c) (part a c l)
+
+-- from one place to another
+pub middle-part : (l : List ℕ) (from to : ℕ) → from ≤ to → take (to - from) (drop from l) ≡ slice from to l
+middle-part l from to h =
+    let e : from + (to - from) ≡ to = omega arith in
+    part from (to - from) l ∙ ap (λ (n : ℕ). slice from n l) e
+
+-- what stands behind the first place
+pub tail-part : (l : List ℕ) → take (length l - 1) (drop 1 l) ≡ drop 1 l
+tail-part l = take-all (length l - 1) (drop 1 l) (omega (arith, length-drop 1 l))

@@ -3,10 +3,10 @@ use mathlib.Core.Path.{_≡_, sym, ap, _∙_, subst}
 use mathlib.Core.Bool.{Bool, true, false, true≢false}
 use mathlib.Core.List.{List, [], _∷_, List·Memᴰ, List·Memᴰ·not-nil, List·Memᴰ·cases-cons}
 use mathlib.Core.Logic.{⊎-elim}
-use Prim.Native.Nat.{ℕ, zero, suc, _+_, _≤_, _<_}
+use Prim.Native.Nat.{ℕ, suc, _+_, _<_}
 use native.Mathlib.Omega.{arith}
-use lib.ListN.{length, getD, drop, length-drop}
-use lib.Seq.{drop-cons, getD-drop, drop-length}
+use lib.ListN.{length, getD, drop}
+use lib.Seq.{drop-cons, drop-length}
 use Rattle.bpa.specs.Plans.{Rule}
 use Rattle.bpa.specs.Method.{lowering}
 use Rattle.bpa.proofs.Basics.Cases.{by-test}
@@ -41,26 +41,6 @@ module _ (f : Rule → Bool) where
   unfolding seek
   seek-past r l e = rw e
 
-  pub seek-le : (l : List Rule) → seek f l ≤ length l
-  unfolding seek
-  seek-le [] = omega arith
-  seek-le (r ∷ l) = by-test (f r) (λ e. omega (arith, seek-here r l e)) (λ e. omega (arith, seek-past r l e, seek-le l))
-
-  pub seek-hit : (l : List Rule) (d : Rule) → seek f l < length l → f (getD l (seek f l) d) ≡ true
-  unfolding seek
-  seek-hit [] d h = absurd (omega arith)
-  seek-hit (r ∷ l) d h =
-      by-test (f r)
-      (λ e. ap (λ (k : ℕ). f (getD (r ∷ l) k d)) (seek-here r l e) ∙ e)
-      (λ e. ap (λ (k : ℕ). f (getD (r ∷ l) k d)) (seek-past r l e) ∙ seek-hit l d (omega (arith, seek-past r l e)))
-
-  pub seek-before : (l : List Rule) (k : ℕ) (d : Rule) → k < seek f l → f (getD l k d) ≡ false
-  unfolding seek
-  seek-before [] k d h = absurd (omega arith)
-  seek-before (r ∷ l) zero d h = by-test (f r) (λ e. absurd (omega (arith, seek-here r l e))) (λ e. e)
-  seek-before (r ∷ l) (suc k) d h =
-      by-test (f r) (λ e. absurd (omega (arith, seek-here r l e))) (λ e. seek-before l k d (omega (arith, seek-past r l e)))
-
   pub seek-found : (l : List Rule) (r : Rule) → List·Memᴰ r l → f r ≡ true → seek f l < length l
   seek-found [] r m e = absurd (List·Memᴰ·not-nil m)
   seek-found (s ∷ l) r m e =
@@ -87,18 +67,6 @@ module _ (f : Rule → Bool) where
   pub seek-end : (rs : List ℕ) → rule-count rs ≡ rule-count rs + seek f (drop (rule-count rs) (all-rules rs))
   unfolding seek
   seek-end rs = rw (all-end rs) (omega arith)
-
-  -- a search that starts at a position ends within the list, at a rule that passes
-  pub seek-within : (rs : List ℕ) (i : ℕ) → i ≤ rule-count rs → i + seek f (drop i (all-rules rs)) ≤ rule-count rs
-  seek-within rs i h =
-      omega (arith, seek-le (drop i (all-rules rs)), length-drop i (all-rules rs), all-length rs)
-
-  pub seek-passes : (rs : List ℕ) (i k : ℕ) → k ≡ i + seek f (drop i (all-rules rs)) → k < rule-count rs → f (rule-at rs k) ≡ true
-  seek-passes rs i k e h =
-      let l = drop i (all-rules rs) in
-      let d = rule-at rs k in
-      ap f (sym (all-at rs k d h) ∙ ap (λ (m : ℕ). getD (all-rules rs) m d) e ∙ sym (getD-drop i (all-rules rs) (seek f l) d))
-      ∙ seek-hit l d (omega (arith, length-drop i (all-rules rs), all-length rs))
 
 -- the jobs after the first norm-lowering rule
 pub lowering-at : (ns : List ℕ) (j : ℕ) (l : List Rule) (d : Rule) → seek (lowers ns j) l < length l →

@@ -21,7 +21,7 @@ use Rattle.facts.proofs.Lookups.{jobs-few, place-job, place-rises}
 use Rattle.fingerprints.specs.Fingerprints.{Printed, KnownPrints, AllPrinted}
 use Rattle.settled.specs.Settled.{History, Settling, Settles}
 use Rattle.decomposing.specs.Candidates.{Earlier-rows, Decomposable, RowWritten}
-use Rattle.decomposing.proofs.LentParts.{middle-part}
+use Rattle.area.proofs.Parts.{middle-part}
 use Rattle.refining.specs.Rounds.{RowsReady, NewRows}
 use Rattle.refining.proofs.Halves.{new-put, old-put}
 use Rattle.refining.proofs.Lengths.{length-set-each}

@@ -1,6 +1,6 @@
 -- `agrees` meets its contract: rules that may agree do so exactly if what they leave is equal by the rows that the asking one asks for.
 -- Assumes nothing.
-use mathlib.Core.Path.{_≡_, ap, subst}
+use mathlib.Core.Path.{ap, subst}
 use mathlib.Core.Bool.{Bool}
 use mathlib.Core.List.{List}
 use Prim.Native.Nat.{ℕ, _<_}
@@ -13,7 +13,7 @@ use Rattle.bpa.specs.Method.{Rows}
 use Rattle.rules.specs.Places.{rule-count}
 use Rattle.rows.specs.Region.{row, old-half, new-half}
 use Rattle.rows.specs.Answers.{Decides}
-use Rattle.answering.specs.Agreeing.{Left-equal, rows-for, rest-for, lead, Pairing}
+use Rattle.answering.specs.Agreeing.{Left-equal, rows-for, rest-for, lead}
 use Rattle.answering.proofs.RowsAsked.{pair-printing, pair-halves}
 use Rattle.answering.proofs.LedRules.{led-below, may-not, may-if-equal}
 use Rattle.answering.proofs.agrees.Statement.{statement}

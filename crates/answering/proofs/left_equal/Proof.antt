@@ -1,18 +1,19 @@
 -- `left_equal` meets its contract: by the rows that are asked for, what the two rules leave is written out and compared. Assumes nothing.
 use mathlib.Core.Path.{_≡_, sym, subst}
-use mathlib.Core.Bool.{Bool, true, false}
+use mathlib.Core.Bool.{Bool}
 use mathlib.Core.List.{List}
-use Prim.Native.Nat.{ℕ, _-_, _<_}
+use Prim.Native.Nat.{ℕ, _-_}
 use lib.ListN.{length, take, drop}
 use lib.Seq.{slice}
 use borrow.Author.Needs.{needs}
+use Rattle.area.proofs.Parts.{middle-part, tail-part}
 use Rattle.bpa.specs.Method.{Rows}
-use Rattle.rules.specs.Places.{rule-at, rule-count}
+use Rattle.rules.specs.Places.{rule-at}
 use Rattle.rules.proofs.ListLaws.{good-has-place}
 use Rattle.rows.specs.Region.{row, Within, Comparable, old-half, new-half}
 use Rattle.rows.specs.Answers.{Decides}
 use Rattle.answering.specs.Agreeing.{Halves, Left-equal, rows-for, rest-for}
-use Rattle.answering.proofs.RowsAsked.{old-lent, new-lent, part-lent, tail-lent, rows-new, rows-old, rest-new, rest-old}
+use Rattle.answering.proofs.RowsAsked.{old-lent, new-lent, rows-new, rows-old, rest-new, rest-old}
 use Rattle.answering.proofs.Agreement.{afters-comparable, afters-tell}
 use Rattle.answering.proofs.left_equal.Statement.{statement}
 use Rattle.answering.proofs.left_equal.Tie as tie
@@ -99,7 +100,7 @@ returns c =
     let tail = take (length (parts at) - 1) (drop 1 (parts at)) in
     by-rows at (c .same-forms .result) (row (new at) (new-part at)) tail
     (rows-new (d at) (new at) (new-part at) (new-half (area at)) (at .args .falls) (test .if1 .taken) (new-is at))
-    (rest-new (behind at) (drop 1 (parts at)) tail (at .args .falls) (test .if1 .taken) (tail-lent (parts at)))
+    (rest-new (behind at) (drop 1 (parts at)) tail (at .args .falls) (test .if1 .taken) (tail-part (parts at)))
     (afters-tell (row (new at) (new-part at)) (rs at) tail (at .args .r) (at .args .s) (right .before .rule-after .result .now)
     (right .rule-after2 .result .now) (c .same-forms .result) (right .before .rule-after .ensures) (right .rule-after2 .ensures)
     (c .same-forms .ensures))
@@ -120,7 +121,7 @@ returns-2 c =
     by-rows at (c .same-forms2 .result) (row (old at) (old-part at)) part
     (rows-old (e at) (old at) (old-part at) (old-half (area at)) (at .args .falls) (test .if1 .left) (old-lent (area at)))
     (rest-old (behind at) (drop 1 (parts at)) part (at .args .falls) (test .if1 .left)
-    (part-lent (area at) (at .args .from) (at .args .to) (halves at .starts)))
+    (middle-part (area at) (at .args .from) (at .args .to) (halves at .starts)))
     (afters-tell (row (old at) (old-part at)) (rs at) part (at .args .r) (at .args .s) (right .before .rule-after .result .now)
     (right .rule-after2 .result .now) (c .same-forms2 .result) (right .before .rule-after .ensures) (right .rule-after2 .ensures)
     (c .same-forms2 .ensures))

@@ -6,7 +6,6 @@ use Prim.Native.Nat.{ℕ, _+_}
 use native.Mathlib.Omega.{arith}
 use lib.ListN.{getD}
 use borrow.Author.Needs.{needs}
-use Rattle.rules.specs.Places.{rule-at}
 use Rattle.answering.specs.Agreeing.{Same-print, Printing, MayAgree}
 use Rattle.answering.proofs.Agreement.{moves-differ, norms-differ, steps-equal}
 use Rattle.answering.proofs.may_agree.Statement.{statement}

@@ -7,13 +7,13 @@ use Prim.Native.Nat.{ℕ, _-_, _≤_, _<_}
 use native.Mathlib.Omega.{arith}
 use lib.ListN.{length, getD, take, drop, set}
 use lib.Seq.{slice, length-slice}
+use Rattle.area.proofs.Parts.{middle-part}
 use Rattle.bpa.specs.Method.{Rows}
 use Rattle.decompositions.specs.Decompositions.{parted}
 use Rattle.rows.specs.Region.{row, old-half, new-half}
 use Rattle.tails.specs.Cuts.{Reached}
 use Rattle.facts.specs.Facts.{norms-in}
 use Rattle.decomposing.specs.Candidates.{LoweredRow, RowWritten}
-use Rattle.decomposing.proofs.LentParts.{middle-part}
 use Rattle.decomposing.proofs.FoundTails.{FoundTail}
 use Rattle.decomposing.proofs.JobsTried.{Tried, tried-none, tried-next, tried-all}
 use Rattle.decomposing.proofs.JobsTried.{PartsWritten, job-written, parts-written, put-back, row-written}

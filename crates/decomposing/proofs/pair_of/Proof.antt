@@ -3,8 +3,8 @@ use mathlib.Core.Path.{refl, sym, ap, subst, _∙_}
 use Prim.Native.Nat.{ℕ, _+_, _*_}
 use native.Mathlib.Omega.{arith}
 use borrow.Author.Needs.{needs}
+use Rattle.area.proofs.Parts.{tail-part}
 use Rattle.fingerprints.specs.Fingerprints.{Printable, value-from, power-from}
-use Rattle.decomposing.proofs.LentParts.{tail-part}
 use Rattle.decomposing.proofs.pair_of.Statement.{statement}
 use Rattle.decomposing.proofs.pair_of.Tie as tie
 

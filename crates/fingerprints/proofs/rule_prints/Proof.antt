@@ -1,6 +1,6 @@
 -- `fingerprints::rule_prints` meets its contract: each number of a rule is that of what it leaves, or 0. Assumes nothing.
 use mathlib.Core.Path.{_≡_}
-use Prim.Native.Nat.{_-_, _≤_, _<_}
+use Prim.Native.Nat.{_-_, _<_}
 use native.Mathlib.Omega.{arith}
 use borrow.Author.Needs.{needs}
 use Rattle.rules.specs.Places.{rule-count}

@@ -6,7 +6,7 @@ use native.Mathlib.Omega.{arith}
 use lib.ListN.{length, getD, set, length-set}
 use borrow.Author.Needs.{needs}
 use Rattle.rules.proofs.ListLaws.{good-rule}
-use Rattle.rules.specs.Places.{rule-count, rule-at}
+use Rattle.rules.specs.Places.{rule-count}
 use Rattle.prepare.proofs.ChainsMade.{Begun, Linked, begun-end, begun-past, begun-here, link}
 use Rattle.prepare.proofs.chain_rules.Statement.{statement}
 use Rattle.prepare.proofs.chain_rules.Tie as tie

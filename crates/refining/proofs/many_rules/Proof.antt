@@ -1,9 +1,7 @@
 -- `refining::many_rules` ends, and looks at jobs and rules of the table only. Assumes nothing.
-use mathlib.Core.Path.{_≡_}
 use Prim.Native.Nat.{_-_, _<_}
 use native.Mathlib.Omega.{arith}
 use borrow.Author.Needs.{needs}
-use Rattle.facts.specs.Facts.{jobs-in}
 use Rattle.refining.proofs.many_rules.Statement.{statement}
 use Rattle.refining.proofs.many_rules.Tie as tie
 

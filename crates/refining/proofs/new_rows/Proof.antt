@@ -9,9 +9,8 @@ use lib.Seq.{slice}
 use Rattle.area.specs.Areas.{put}
 use Rattle.rules.specs.Lists.{GoodList}
 use Rattle.rows.specs.Region.{row, old-half, new-half}
-use Rattle.refining.specs.Rounds.{NewRows}
 use Rattle.facts.specs.Facts.{order-in, jobs-in}
-use Rattle.decomposing.proofs.LentParts.{middle-part}
+use Rattle.area.proofs.Parts.{middle-part}
 use Rattle.refining.proofs.NewHalf.{Growing, lent-within, lent-known, lent-printed, job-small, few}
 use Rattle.refining.proofs.KnownRows.{known-unmoved}
 use Rattle.refining.proofs.NewHalf.{growing-first, growing-settling, growing-settled, growing-asks, growing-same, growing-more, growing-last}
