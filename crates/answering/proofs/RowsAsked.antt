@@ -1,24 +1,12 @@
 -- The rows by which a rule is answered: the half of the area that its norm chooses, what stands behind X by
 -- them, and what a comparison by them asks of a pair. Assumes nothing.
-use mathlib.Core.Path.{_≡_, refl, sym, ap, _∙_}
+use mathlib.Core.Path.{_≡_, sym, ap, _∙_}
 use mathlib.Core.Bool.{Bool, true, false}
 use mathlib.Core.List.{List}
 use Prim.Native.Nat.{ℕ}
-use native.Mathlib.Omega.{arith}
-use lib.ListN.{length, take, drop, length-drop}
-use lib.Seq.{take-all}
 use Rattle.bpa.specs.Method.{Rows}
-use Rattle.rows.specs.Region.{row, old-half, new-half}
+use Rattle.rows.specs.Region.{row}
 use Rattle.answering.specs.Agreeing.{rows-for, rest-for, Printing, Halves, Pairing}
-
--- the halves of the area, as the code lends them
-pub old-lent : (area : List ℕ) → take 12288 (drop 0 area) ≡ old-half area
-unfolding old-half
-old-lent area = refl
-
-pub new-lent : (area : List ℕ) → length area ≡ 24576 → take 12288 (drop 12288 area) ≡ new-half area
-unfolding new-half
-new-lent area h = take-all 12288 (drop 12288 area) (omega (arith, length-drop 12288 area))
 
 -- the rows that are asked for, and what stands behind X by them
 pub rows-new : (d : Rows) (new region half : List ℕ) (falls : Bool) → falls ≡ true → region ≡ half →

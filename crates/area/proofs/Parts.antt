@@ -18,6 +18,6 @@ middle-part l from to h =
     let e : from + (to - from) ≡ to = omega arith in
     part from (to - from) l ∙ ap (λ (n : ℕ). slice from n l) e
 
--- what stands behind the first place
-pub tail-part : (l : List ℕ) → take (length l - 1) (drop 1 l) ≡ drop 1 l
-tail-part l = take-all (length l - 1) (drop 1 l) (omega (arith, length-drop 1 l))
+-- from a place to the end
+pub rest-part : (l : List ℕ) (n : ℕ) → take (length l - n) (drop n l) ≡ drop n l
+rest-part l n = take-all (length l - n) (drop n l) (omega (arith, length-drop n l))

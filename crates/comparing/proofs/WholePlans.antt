@@ -4,7 +4,8 @@ use mathlib.Core.List.{List, _++_}
 use Prim.Native.Nat.{ℕ, _+_, _-_, _≤_}
 use native.Mathlib.Omega.{arith}
 use lib.ListN.{length, take, drop, length-append, length-drop, take-append-drop}
-use lib.Seq.{take-all, getD-drop}
+use lib.Seq.{getD-drop}
+use Rattle.area.proofs.Parts.{rest-part}
 use Rattle.bpa.specs.Method.{Rows, Difference, expand, first-difference}
 use Rattle.bpa.proofs.Judge.Rows.{expand-append}
 use Rattle.rows.specs.Region.{row, Readable, Comparable, old-half}
@@ -16,9 +17,6 @@ use Rattle.comparing.proofs.WrittenOut.{rows-kept, flat-lent}
 -- a plan from a place on, as it is lent
 abbrev pub rest-lent : (p : List ℕ) (n : ℕ) → List ℕ
 rest-lent p n = take (length p - n) (drop n p)
-
-lent-rest : (p : List ℕ) (n : ℕ) → rest-lent p n ≡ drop n p
-lent-rest p n = take-all (length p - n) (drop n p) (omega (arith, length-drop n p))
 
 rest-readable : (lens region p : List ℕ) (n : ℕ) → Readable lens region p → Readable lens region (drop n p)
 rest-readable lens region p n r = record {
@@ -41,11 +39,11 @@ module _ (lens area left right : List ℕ) (asks : Comparable lens (old-half are
     (room : length (expand (row lens (old-half area)) right) ≤ 12288) (n : ℕ) where
   pub right-readable : Readable lens (old-half area) (rest-lent right n)
   right-readable =
-      rw (lent-rest right n)
+      rw (rest-part right n)
       (rest-readable lens (old-half area) right n (within-readable (asks .jobs) lens (old-half area) right (asks .within) (asks .right)))
 
   pub right-room : 12288 + length (expand (row lens (old-half area)) (rest-lent right n)) ≤ length area
-  right-room = rw (lent-rest right n) (omega (arith, rest-short (row lens (old-half area)) right n))
+  right-room = rw (rest-part right n) (omega (arith, rest-short (row lens (old-half area)) right n))
 
   -- once the rest of the right plan is written out
   module _ (after : List ℕ) (end : ℕ) (p : WrittenOut (expand (row lens (old-half area)) (rest-lent right n)) area end after) where
@@ -57,7 +55,7 @@ module _ (lens area left right : List ℕ) (asks : Comparable lens (old-half are
 
     pub left-readable : Readable lens (take 12288 after) (rest-lent left n)
     left-readable =
-        rw (kept, lent-rest left n)
+        rw (kept, rest-part left n)
         (rest-readable lens (old-half area) left n (within-readable (asks .jobs) lens (old-half area) left (asks .within) (asks .left)))
 
     pub whole-difference : Common left right n → (d : Difference) →
@@ -66,5 +64,5 @@ module _ (lens area left right : List ℕ) (asks : Comparable lens (old-half are
     whole-difference c d f =
         let e = row lens (old-half area) in
         let written : take (end - 12288) (drop 12288 after) ≡ expand e (drop n right) =
-        flat-lent (expand e (rest-lent right n)) area (asks .within .size) end after p ∙ ap (expand e) (lent-rest right n) in
-        f ∙ rw (kept, lent-rest left n, written) (sym (front-passed e left right n (c .equal)))
+        flat-lent (expand e (rest-lent right n)) area (asks .within .size) end after p ∙ ap (expand e) (rest-part right n) in
+        f ∙ rw (kept, rest-part left n, written) (sym (front-passed e left right n (c .equal)))

@@ -1,5 +1,4 @@
--- Laws of the new row of a job: what the code lends, the lowered row, rules by their places, fingerprints, tails, and the jobs tried so far.
-pub mod LentParts
+-- Laws of the new row of a job: the lowered row, rules by their places, fingerprints, tails, and the jobs tried so far.
 pub mod JobsOfTable
 pub mod LikelyJobs
 pub mod LoweredRows

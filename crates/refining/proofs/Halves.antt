@@ -1,26 +1,14 @@
--- The two halves of an area: as they are lent, and bytes put into one of them. Assumes nothing.
-use mathlib.Core.Path.{_≡_, refl, sym, ap, ap₂, _∙_}
+-- The two halves of an area: their lengths, and bytes put into one of them. Assumes nothing.
+use mathlib.Core.Path.{_≡_, sym, ap, ap₂, _∙_}
 use mathlib.Core.List.{List, _++_, append-nil, append-assoc}
 use Prim.Native.Nat.{ℕ, _+_, _-_, _≤_}
 use native.Mathlib.Omega.{arith}
 use lib.ListN.{length, take, drop, length-append, length-drop, drop-of-length-le}
-use lib.Seq.{length-take-le, take-all, take-add, take-take, drop-drop, drop-at, drop-append-le}
+use lib.Seq.{length-take-le, take-add, take-take, drop-drop, drop-at, drop-append-le}
 use Rattle.area.specs.Areas.{put}
 use Rattle.area.proofs.Parts.{part}
 use Rattle.area.proofs.Puts.{put-up-to, put-behind, take-put}
 use Rattle.rows.specs.Region.{old-half, new-half}
-
--- AS THEY ARE LENT
-pub lent-old : (area : List ℕ) → take 12288 area ≡ old-half area
-unfolding old-half
-lent-old area = refl
-
-lent-rest : (half n : ℕ) (area : List ℕ) → length area ≡ half + n → take n (drop half area) ≡ drop half area
-lent-rest half n area e = take-all n (drop half area) (omega (arith, length-drop half area))
-
-pub lent-new : (area : List ℕ) → length area ≡ 24576 → take 12288 (drop 12288 area) ≡ new-half area
-unfolding new-half
-lent-new area e = lent-rest 12288 12288 area e
 
 pub old-size : (area : List ℕ) → length area ≡ 24576 → length (old-half area) ≡ 12288
 unfolding old-half

@@ -8,27 +8,25 @@ use Rattle.bpa.specs.Method.{Rows}
 use Rattle.fingerprints.specs.Fingerprints.{modulus, base, number, Printed, KnownPrints}
 
 -- at first every row has moved
+pub all-moved : (j : ℕ) → j < 24 → _≡_ {A = ℕ} (getD (replicate 24 1) j 0) 0 → ⊥
+all-moved j h e = omega (arith, getD-replicate {A = ℕ} 24 j 1 0 h)
+
 pub known-none : (jobs : ℕ) (d : Rows) → jobs ≤ 24 → KnownPrints jobs d (replicate 24 1) (replicate 300 0)
 known-none jobs d few = record {
   size = length-replicate {A = ℕ} 300 0;
-  value = λ j h z. absurd (omega (arith, getD-replicate {A = ℕ} 24 j 1 0 (omega arith)));
-  power = λ j h z. absurd (omega (arith, getD-replicate {A = ℕ} 24 j 1 0 (omega arith)));
+  value = λ j h z. absurd (all-moved j (omega arith) z);
+  power = λ j h z. absurd (all-moved j (omega arith) z);
 }
 
--- the rows that have not moved are the old ones
-pub known-unmoved : (jobs : ℕ) (d e : Rows) (moved prints : List ℕ) → Printed jobs d prints →
+-- those of all rows
+pub known-all : (jobs : ℕ) (d : Rows) (moved prints : List ℕ) → Printed jobs d prints → KnownPrints jobs d moved prints
+known-all jobs d moved prints w = record { size = w .size; value = λ j h z. w .value j h; power = λ j h z. w .power j h }
+
+-- rows that are the same for each job that has not moved
+pub known-same : (jobs : ℕ) (d e : Rows) (moved prints : List ℕ) → KnownPrints jobs d moved prints →
     ((j : ℕ) → j < jobs → getD moved j 0 ≡ 0 → e j ≡ d j) → KnownPrints jobs e moved prints
-known-unmoved jobs d e moved prints w same = record {
-  size = w .size;
-  value = λ j h z. w .value j h ∙ ap (λ (r : List ℕ). number r % modulus) (sym (same j h z));
-  power = λ j h z. w .power j h ∙ ap (λ (r : List ℕ). base ^ length r % modulus) (sym (same j h z));
-}
-
--- the same rows elsewhere
-pub known-same : (jobs : ℕ) (d e : Rows) (moved prints : List ℕ) → KnownPrints jobs d moved prints → ((j : ℕ) → j < jobs → e j ≡ d j) →
-    KnownPrints jobs e moved prints
 known-same jobs d e moved prints w same = record {
   size = w .size;
-  value = λ j h z. w .value j h z ∙ ap (λ (r : List ℕ). number r % modulus) (sym (same j h));
-  power = λ j h z. w .power j h z ∙ ap (λ (r : List ℕ). base ^ length r % modulus) (sym (same j h));
+  value = λ j h z. w .value j h z ∙ ap (λ (r : List ℕ). number r % modulus) (sym (same j h z));
+  power = λ j h z. w .power j h z ∙ ap (λ (r : List ℕ). base ^ length r % modulus) (sym (same j h z));
 }

@@ -10,15 +10,15 @@ use Rattle.decompositions.specs.Decompositions.{Alone}
 use Rattle.rows.specs.Region.{row, old-half, new-half}
 use Rattle.rows.specs.Answers.{Decides}
 use Rattle.refining.specs.Rounds.{PrimesFound}
-use Rattle.refining.proofs.Halves.{lent-old, lent-new}
+use Rattle.rows.proofs.LentRows.{old-lent, new-lent}
 
 pub old-alone : (old area : List ℕ) (j : ℕ) (answer : Bool) → Decides answer (row old (take 12288 area) j ≡ j ∷ []) →
     Decides answer (Alone (row old (old-half area)) j)
-old-alone old area j answer h = subst (λ (l : List ℕ). Decides answer (row old l j ≡ j ∷ [])) (lent-old area) h
+old-alone old area j answer h = subst (λ (l : List ℕ). Decides answer (row old l j ≡ j ∷ [])) (old-lent area) h
 
 pub new-alone : (new area : List ℕ) → length area ≡ 24576 → (j : ℕ) (answer : Bool) →
     Decides answer (row new (take 12288 (drop 12288 area)) j ≡ j ∷ []) → Decides answer (Alone (row new (new-half area)) j)
-new-alone new area size j answer h = subst (λ (l : List ℕ). Decides answer (row new l j ≡ j ∷ [])) (lent-new area size) h
+new-alone new area size j answer h = subst (λ (l : List ℕ). Decides answer (row new l j ≡ j ∷ [])) (new-lent area size) h
 
 -- an answer of no
 pub decides-not : (A : Type 0) (answer : Bool) → Decides answer A → answer ≡ false → A → ⊥

@@ -5,7 +5,7 @@ use mathlib.Core.Bool.{Bool, true, false}
 use mathlib.Core.List.{List}
 use Prim.Native.Nat.{ℕ, _*_, _<_}
 use native.Mathlib.Omega.{arith}
-use lib.ListN.{length, getD, take, drop, replicate, getD-replicate}
+use lib.ListN.{length, take, drop, replicate}
 use Rattle.bpa.specs.Norms.{norms, Good}
 use Rattle.rules.specs.Places.{table-of}
 use Rattle.rows.specs.Region.{row, Within, old-half, new-half}
@@ -19,7 +19,7 @@ use Rattle.settled.specs.Settled.{History}
 use Rattle.fingerprints.specs.Fingerprints.{KnownPrints}
 use Rattle.refining.specs.Rounds.{FirstIn, CanKeep, Kept, RowsReady, NewRows, PrimesFound, Rounded, FinalIn}
 use Rattle.refining.proofs.Halves.{old-size}
-use Rattle.refining.proofs.KnownRows.{known-same}
+use Rattle.refining.proofs.KnownRows.{all-moved, known-same}
 use Rattle.refining.proofs.AgreeingRows.{first-agree, decomposition-agree, refines-agree}
 
 -- a round: new primes are looked for beside the old rows as they were
@@ -57,10 +57,6 @@ module _ (rs facts sums next : List ℕ) (tables : Tables rs sums next facts) (l
         };
         cover = c;
       }
-
--- at first every job has moved
-all-moved : (j : ℕ) → j < 24 → _≡_ {A = ℕ} (getD (replicate 24 1) j 0) 0 → ⊥
-all-moved j h e = omega (arith, getD-replicate {A = ℕ} 24 j 1 0 h)
 
 pub first-keep : (rs facts lens area region : List ℕ) (jobs : ℕ) → length area ≡ 24576 → new-half area ≡ region → jobs ≡ jobs-in facts →
     FirstIn rs facts lens region → CanKeep jobs lens (replicate 24 1) area
@@ -143,7 +139,7 @@ module _ (rs facts sums next old new₀ flags new moved before after : List ℕ)
     -- the fingerprints of rows that have not moved are those of the rows after the copy
     pub rounds-known : (prints : List ℕ) → KnownPrints (jobs-in facts) (row new (new-half after)) moved prints →
         KnownPrints (jobs-in facts) (row new (old-half area)) moved prints
-    rounds-known prints k = known-same (jobs-in facts) (row new (new-half after)) (row new (old-half area)) moved prints k (kept .old-are)
+    rounds-known prints k = known-same (jobs-in facts) (row new (new-half after)) (row new (old-half area)) moved prints k (λ j h z. kept .old-are j h)
 
     -- THE MEASURE FALLS if a prime is new
     pub rounds-fall : out ≡ true →

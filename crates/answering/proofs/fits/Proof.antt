@@ -10,7 +10,7 @@ use Rattle.bpa.specs.Method.{Rows, expand}
 use Rattle.rows.specs.Region.{row, old-half, new-half}
 use Rattle.rows.specs.Answers.{Decides}
 use Rattle.answering.specs.Agreeing.{lead, EqualOld, Pairing, OldPair, AllAnswered}
-use Rattle.answering.proofs.RowsAsked.{old-lent}
+use Rattle.rows.proofs.LentRows.{old-lent}
 use Rattle.answering.proofs.KnownRules.{known-none}
 use Rattle.answering.proofs.TurnedPair.{pairing-turned, known-turned, not-equal, not-forth, forth-and-back}
 use Rattle.answering.proofs.fits.Statement.{statement}

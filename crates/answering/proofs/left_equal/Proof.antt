@@ -6,14 +6,15 @@ use Prim.Native.Nat.{ℕ, _-_}
 use lib.ListN.{length, take, drop}
 use lib.Seq.{slice}
 use borrow.Author.Needs.{needs}
-use Rattle.area.proofs.Parts.{middle-part, tail-part}
+use Rattle.area.proofs.Parts.{middle-part, rest-part}
 use Rattle.bpa.specs.Method.{Rows}
 use Rattle.rules.specs.Places.{rule-at}
 use Rattle.rules.proofs.ListLaws.{good-has-place}
 use Rattle.rows.specs.Region.{row, Within, Comparable, old-half, new-half}
 use Rattle.rows.specs.Answers.{Decides}
+use Rattle.rows.proofs.LentRows.{old-lent, new-lent}
 use Rattle.answering.specs.Agreeing.{Halves, Left-equal, rows-for, rest-for}
-use Rattle.answering.proofs.RowsAsked.{old-lent, new-lent, rows-new, rows-old, rest-new, rest-old}
+use Rattle.answering.proofs.RowsAsked.{rows-new, rows-old, rest-new, rest-old}
 use Rattle.answering.proofs.Agreement.{afters-comparable, afters-tell}
 use Rattle.answering.proofs.left_equal.Statement.{statement}
 use Rattle.answering.proofs.left_equal.Tie as tie
@@ -100,7 +101,7 @@ returns c =
     let tail = take (length (parts at) - 1) (drop 1 (parts at)) in
     by-rows at (c .same-forms .result) (row (new at) (new-part at)) tail
     (rows-new (d at) (new at) (new-part at) (new-half (area at)) (at .args .falls) (test .if1 .taken) (new-is at))
-    (rest-new (behind at) (drop 1 (parts at)) tail (at .args .falls) (test .if1 .taken) (tail-part (parts at)))
+    (rest-new (behind at) (drop 1 (parts at)) tail (at .args .falls) (test .if1 .taken) (rest-part (parts at) 1))
     (afters-tell (row (new at) (new-part at)) (rs at) tail (at .args .r) (at .args .s) (right .before .rule-after .result .now)
     (right .rule-after2 .result .now) (c .same-forms .result) (right .before .rule-after .ensures) (right .rule-after2 .ensures)
     (c .same-forms .ensures))

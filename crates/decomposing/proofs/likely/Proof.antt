@@ -1,7 +1,7 @@
 -- `decomposing::likely` meets its contract. Assumes nothing.
 use borrow.Author.Needs.{needs}
 use Rattle.rows.specs.Region.{new-half}
-use Rattle.decomposing.proofs.LentParts.{new-part}
+use Rattle.rows.proofs.LentRows.{new-lent}
 use Rattle.decomposing.proofs.LikelyJobs.{not-prime, other-front, by-marks}
 use Rattle.decomposing.proofs.likely.Statement.{statement}
 use Rattle.decomposing.proofs.likely.Tie as tie
@@ -11,7 +11,7 @@ returns c =
     let alone = c .before .before .before .before in
     let s = alone .before .before .before in
     let a = s .args in
-    other-front (a .facts .now) (a .area .now) (a .new .now) _ (new-half (a .area .now)) (new-part (a .area .now) (s .pre .2)) (a .y) (a .x)
+    other-front (a .facts .now) (a .area .now) (a .new .now) _ (new-half (a .area .now)) (new-lent (a .area .now) (s .pre .2)) (a .y) (a .x)
     (alone .alone .result) (alone .alone .ensures) (c .if2 .taken)
 
 returns-2 : tie.Need-returns-2
@@ -21,7 +21,7 @@ returns-2 c =
     let alone = prime .before in
     let s = alone .before .before .before in
     let a = s .args in
-    by-marks (a .facts .now) (a .area .now) (a .new .now) _ (new-half (a .area .now)) (new-part (a .area .now) (s .pre .2)) (a .y) (a .x)
+    by-marks (a .facts .now) (a .area .now) (a .new .now) _ (new-half (a .area .now)) (new-lent (a .area .now) (s .pre .2)) (a .y) (a .x)
     (alone .alone .result) (alone .alone .ensures) (prime .if1 .taken) (front .if2 .left) (c .before .mark-of .result) (c .mark-of2 .result)
     (c .before .mark-of .ensures) (c .mark-of2 .ensures)
 
@@ -30,7 +30,7 @@ returns-3 c =
     let alone = c .before in
     let s = alone .before .before .before in
     let a = s .args in
-    not-prime (a .facts .now) (a .area .now) (a .new .now) _ (new-half (a .area .now)) (new-part (a .area .now) (s .pre .2)) (a .y) (a .x)
+    not-prime (a .facts .now) (a .area .now) (a .new .now) _ (new-half (a .area .now)) (new-lent (a .area .now) (s .pre .2)) (a .y) (a .x)
     (alone .alone .result) (alone .alone .ensures) (c .if1 .left)
 
 pub likely-spec : {M : Type 1} → statement M

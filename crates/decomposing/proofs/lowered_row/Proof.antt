@@ -7,7 +7,7 @@ use Rattle.rules.specs.Lists.{HasPlace}
 use Rattle.rules.specs.Places.{rule-at}
 use Rattle.rows.specs.Region.{row, new-half}
 use Rattle.decomposing.specs.Candidates.{LoweredRow}
-use Rattle.decomposing.proofs.LentParts.{new-part}
+use Rattle.rows.proofs.LentRows.{new-lent}
 use Rattle.decomposing.proofs.LoweredRows.{job-small, rule-there, lowered-readable, lowered-room, lowered-row}
 use Rattle.decomposing.proofs.lowered_row.Statement.{statement}
 use Rattle.decomposing.proofs.lowered_row.Tie as tie
@@ -43,7 +43,7 @@ write-expansion-requires c κs =
     let l = c .before in
     let s = start (rule l) in
     let a = s .args in
-    let half = new-part (a .area .now) (s .pre .0 .size) in
+    let half = new-lent (a .area .now) (s .pre .0 .size) in
     let lent = l .rule-after .result .now in (
       lowered-readable (a .rules .now) (a .facts .now) (a .new .now) (a .area .now) (a .y) (s .pre .0) _ lent half (jobs-are l),
       lowered-room (a .rules .now) (a .facts .now) (a .new .now) (a .area .now) (a .y) (s .pre .0) _ lent half (jobs-are l) (a .out .now) (s .pre .1),
@@ -60,7 +60,7 @@ written c =
     let s = start (rule l) in
     let a = s .args in
     lowered-row (a .rules .now) (a .facts .now) (a .new .now) (a .area .now) (a .y) (s .pre .0) _ (l .rule-after .result .now)
-    (new-part (a .area .now) (s .pre .0 .size)) (jobs-are l) (a .out .now) _ (c .write-expansion .result) (s .pre .1) (c .write-expansion .ensures)
+    (new-lent (a .area .now) (s .pre .0 .size)) (jobs-are l) (a .out .now) _ (c .write-expansion .result) (s .pre .1) (c .write-expansion .ensures)
 
 same-length : tie.Need-same-length
 same-length c =

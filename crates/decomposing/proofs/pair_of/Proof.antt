@@ -3,7 +3,7 @@ use mathlib.Core.Path.{refl, sym, ap, subst, _∙_}
 use Prim.Native.Nat.{ℕ, _+_, _*_}
 use native.Mathlib.Omega.{arith}
 use borrow.Author.Needs.{needs}
-use Rattle.area.proofs.Parts.{tail-part}
+use Rattle.area.proofs.Parts.{rest-part}
 use Rattle.fingerprints.specs.Fingerprints.{Printable, value-from, power-from}
 use Rattle.decomposing.proofs.pair_of.Statement.{statement}
 use Rattle.decomposing.proofs.pair_of.Tie as tie
@@ -11,7 +11,7 @@ use Rattle.decomposing.proofs.pair_of.Tie as tie
 plan-print-requires : tie.Need-plan-print-requires
 plan-print-requires c κs =
     let s = c .before .before in
-    subst (Printable (s .args .prints .now)) (sym (tail-part (s .args .parts .now))) (s .pre .printable)
+    subst (Printable (s .args .prints .now)) (sym (rest-part (s .args .parts .now) 1)) (s .pre .printable)
 
 returns : tie.Need-returns
 returns c =
@@ -31,8 +31,8 @@ returns c =
       tries-first = c .before .before .before .before .first-rule2 .ensures;
       norm-is = y-norm;
       gap-is = omega (arith, s .pre .norms, y-norm, c .before .before .norm-of2 .ensures, c .before .norm-of3 .ensures);
-      value-is = print .value-is ∙ ap (value-from (a .prints .now) 0) (tail-part (a .parts .now));
-      power-is = print .power-is ∙ ap (power-from (a .prints .now) 1) (tail-part (a .parts .now));
+      value-is = print .value-is ∙ ap (value-from (a .prints .now) 0) (rest-part (a .parts .now) 1);
+      power-is = print .power-is ∙ ap (power-from (a .prints .now) 1) (rest-part (a .parts .now) 1);
       value-small = print .value-small;
       power-small = print .power-small;
       from-is = λ h. ap (λ (n : ℕ). 512 * a .y + n) (l .is-left (omega (arith, h, x-len, y-len)) ∙ x-len);

@@ -8,7 +8,8 @@ use lib.ListN.{length}
 use Rattle.rows.specs.Region.{row, old-half, new-half}
 use Rattle.facts.specs.Facts.{jobs-in}
 use Rattle.decompositions.specs.Decompositions.{Alone}
-use Rattle.refining.proofs.Halves.{lent-old, lent-new, old-size, new-size}
+use Rattle.rows.proofs.LentRows.{old-lent, new-lent}
+use Rattle.refining.proofs.Halves.{old-size, new-size}
 use Rattle.refining.proofs.Primes.{old-alone, new-alone, decides-not, prime-found, prime-none}
 use Rattle.refining.proofs.new_prime.Statement.{statement}
 use Rattle.refining.proofs.new_prime.Tie as tie
@@ -29,7 +30,7 @@ alone-requires c κs =
     let a = s .args in
     record {
       is-job = omega (arith, s .pre .0, c .before .before .before .job-count .ensures, c .before .loop-test .taken);
-      size = subst (λ l. length l ≡ 12288) (sym (lent-new (a .area .now) (s .pre .1))) (new-size (a .area .now) (s .pre .1));
+      size = subst (λ l. length l ≡ 12288) (sym (new-lent (a .area .now) (s .pre .1))) (new-size (a .area .now) (s .pre .1));
     }
 
 alone-requires-2 : tie.Need-alone-requires-2 Inv-loop μ-loop
@@ -43,7 +44,7 @@ alone-requires-2 c κs =
         c .before .before .before .before .before .before .job-count .ensures,
         c .before .before .before .before .loop-test .taken,
       );
-      size = subst (λ l. length l ≡ 12288) (sym (lent-old (a .area .now))) (old-size (a .area .now) (s .pre .1));
+      size = subst (λ l. length l ≡ 12288) (sym (old-lent (a .area .now))) (old-size (a .area .now) (s .pre .1));
     }
 
 loop-again : tie.Need-loop-again Inv-loop μ-loop

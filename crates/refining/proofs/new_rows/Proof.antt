@@ -12,7 +12,7 @@ use Rattle.rows.specs.Region.{row, old-half, new-half}
 use Rattle.facts.specs.Facts.{order-in, jobs-in}
 use Rattle.area.proofs.Parts.{middle-part}
 use Rattle.refining.proofs.NewHalf.{Growing, lent-within, lent-known, lent-printed, job-small, few}
-use Rattle.refining.proofs.KnownRows.{known-unmoved}
+use Rattle.refining.proofs.KnownRows.{known-all, known-same}
 use Rattle.refining.proofs.NewHalf.{growing-first, growing-settling, growing-settled, growing-asks, growing-same, growing-more, growing-last}
 use Rattle.refining.proofs.new_rows.Statement.{statement}
 use Rattle.refining.proofs.new_rows.Tie as tie
@@ -285,10 +285,11 @@ returns c =
     growing-last (a .rules .now) (a .sums .now) (a .next .now) (a .facts .now) (a .old .now) (a .new .now) (a .moved .now) (a .area .now)
     (s .pre .0) (v .new) (v .stale) (v .moved) (v .area) (v .place) (omega (arith, k .ensures, c .loop-test .left)) (v .inv .2) in (
       rows,
-      known-unmoved (jobs-in (a .facts .now)) (row (a .old .now) (old-half (a .area .now))) (row (v .new) (new-half (v .area))) (v .moved)
+      known-same (jobs-in (a .facts .now)) (row (a .old .now) (old-half (a .area .now))) (row (v .new) (new-half (v .area))) (v .moved)
           (w .last .1 .1 .1 .1 .1 .1 .1 .0)
+          (known-all (jobs-in (a .facts .now)) (row (a .old .now) (old-half (a .area .now))) (v .moved) (w .last .1 .1 .1 .1 .1 .1 .1 .0)
           (lent-printed (a .rules .now) (k .result) (jobs-in (a .facts .now)) (a .old .now) (a .area .now) (w .last .1 .1 .1 .1 .1 .1 .1 .0) (k .ensures)
-          (w .ensures) .jobs-printed) (rows .others),
+          (w .ensures) .jobs-printed)) (rows .others),
     )
 
 pub new-rows-spec : {M : Type 1} → statement M

@@ -4,10 +4,11 @@ use mathlib.Core.List.{List, _++_}
 use borrow.Author.Needs.{needs}
 use lib.ListN.{length, take, drop}
 use Rattle.rows.specs.Region.{row, old-half}
+use Rattle.rows.proofs.LentRows.{new-lent}
 use Rattle.fingerprints.specs.Fingerprints.{KnownPrints}
 use Rattle.facts.specs.Facts.{jobs-in, table-by}
 use Rattle.decompositions.proofs.NoNewPrime.{composite}
-use Rattle.refining.proofs.Halves.{lent-new, new-size, new-given, given-size}
+use Rattle.refining.proofs.Halves.{new-size, new-given, given-size}
 use Rattle.refining.proofs.RoundLaws.{BetweenRounds, first-keep, rounds-begin, rounds-keep, rounds-go-on, rounds-known, rounds-fall, rounds-end}
 use Rattle.refining.proofs.KnownRows.{known-none}
 use Rattle.refining.proofs.refine.Statement.{statement}
@@ -25,7 +26,7 @@ first-rows-requires c κs =
     let s = c .before .before .before .before .before in
     let area = s .args .area .now in
     let size = s .pre .1 .1 in
-    (s .pre .0, subst (λ (l : List _). length l ≡ 12288) (sym (lent-new area size)) (new-size area size))
+    (s .pre .0, subst (λ (l : List _). length l ≡ 12288) (sym (new-lent area size)) (new-size area size))
 
 keep-requires : tie.Need-keep-requires Inv-loop μ-loop
 keep-requires c κs =
