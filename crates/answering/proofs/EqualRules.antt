@@ -2,14 +2,14 @@
 use mathlib.Core.Path.{_≡_, sym, ap, _∙_, subst}
 use mathlib.Core.Bool.{Bool, true, false}
 use mathlib.Core.List.{List, _++_}
-use Prim.Native.Nat.{ℕ, _+_}
+use Prim.Native.Nat.{ℕ, _+_, _<_}
 use lib.Dec.{ltb}
 use lib.ListN.{getD}
 use Rattle.bpa.specs.Plans.{Rule}
 use Rattle.bpa.specs.Method.{Rows, expand}
-use Rattle.rules.specs.Places.{rule-at}
+use Rattle.rules.specs.Places.{rule-at, rule-count}
 use Rattle.prepare.proofs.PassedRules.{Alike}
-use Rattle.answering.specs.Agreeing.{Agree, Agree-from, rows-for, rest-for, Sums-alike, Answered}
+use Rattle.answering.specs.Agreeing.{Agree, Agree-from, rows-for, rest-for, Answered}
 use Rattle.answering.proofs.RuleSearch.{Apart}
 
 module _ (rs sums : List ℕ) (gap : ℕ) (i k : ℕ) (same : rule-at rs i ≡ rule-at rs k) (sum : getD sums i 0 ≡ getD sums k 0) where
@@ -38,7 +38,8 @@ module _ (rs sums : List ℕ) (gap : ℕ) (i k : ℕ) (same : rule-at rs i ≡ r
   answers true = right
   answers false = left
 
-module _ (forward : Bool) (rs sums : List ℕ) (alike : Sums-alike rs sums) (gap : ℕ) where
+module _ (forward : Bool) (rs sums : List ℕ)
+    (alike : (i k : ℕ) → i < k → k < rule-count rs → rule-at rs i ≡ rule-at rs k → getD sums i 0 ≡ getD sums k 0) (gap : ℕ) where
   pub apart-alike : (e : Rows) (rest : List ℕ) (r : ℕ) → Alike rs (Apart forward e rs sums gap rest r)
   apart-alike e rest r i k l b same off a = off (answers rs sums gap k i (sym same) (sym (alike i k l b same)) forward e rest r a)
 

@@ -43,18 +43,16 @@ module _ (rs sums next prints old new area parts : List ℕ) (pair : Pair) (p : 
   pairing-on : (h : ℕ) → OnChain rs (pair .other) h → Paired rs sums next prints old new area parts (hinted pair h)
   pairing-on h on = record {
     jobs = p .jobs;
-    list = p .list;
+    looks = p .looks;
     size = p .size;
     old-within = p .old-within;
     new-within = p .new-within;
     rule-prints = p .rule-prints;
-    gap-small = p .gap-small;
     value-small = p .value-small;
     power-small = p .power-small;
     some = p .some;
     starts = p .starts;
     inside = p .inside;
-    alike = p .alike;
     first = p .first;
     chained = p .chained;
     mine-job = p .mine-job;

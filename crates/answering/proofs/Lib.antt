@@ -1,4 +1,5 @@
 -- Laws of rules that agree, and of jobs whose rules answer each other.
+pub mod RemainderNorms
 pub mod Agreement
 pub mod RuleSearch
 pub mod EqualRules

@@ -30,12 +30,11 @@ rest-old o n rest falls h e = ap (λ (b : Bool). rest-for b o n) h ∙ sym e
 module _ {rs sums next prints old new area parts : List ℕ} {forward : Bool} {mine other asks tries norm gap value power from to hint : ℕ}
     (p : Pairing rs sums next prints old new area parts forward mine other asks tries norm gap value power from to hint) where
   -- what the tests before a comparison ask, and what the comparison does
-  pub pair-printing : Printing rs prints gap value power
+  pub pair-printing : Printing rs prints value power
   pair-printing = record {
     jobs = p .jobs;
-    list = p .list;
+    list = p .looks .list;
     rule-prints = p .rule-prints;
-    gap-small = p .gap-small;
     value-small = p .value-small;
     power-small = p .power-small;
   }
@@ -43,7 +42,7 @@ module _ {rs sums next prints old new area parts : List ℕ} {forward : Bool} {m
   pub pair-halves : Halves rs old new area parts from to
   pair-halves = record {
     jobs = p .jobs;
-    list = p .list;
+    list = p .looks .list;
     size = p .size;
     old-within = p .old-within;
     new-within = p .new-within;

@@ -49,18 +49,16 @@ pub pairing-turned : (rs sums next prints old new area parts : List ℕ) (y x as
     Pairing rs sums next prints old new area parts false x y tries asks (norm - gap) gap value power from to asks
 pairing-turned rs sums next prints old new area parts y x asks tries norm gap value power from to hint p = record {
   jobs = p .jobs;
-  list = p .list;
+  looks = p .looks;
   size = p .size;
   old-within = p .old-within;
   new-within = p .new-within;
   rule-prints = p .rule-prints;
-  gap-small = p .gap-small;
   value-small = p .value-small;
   power-small = p .power-small;
   some = p .some;
   starts = p .starts;
   inside = p .inside;
-  alike = p .alike;
   first = p .first;
   chained = p .chained;
   mine-job = p .other-job;

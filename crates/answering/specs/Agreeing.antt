@@ -14,11 +14,7 @@ use Rattle.rules.specs.Lists.{GoodList}
 use Rattle.prepare.specs.Prepared.{Chained, OnChain}
 use Rattle.rows.specs.Region.{row, Within, old-half, new-half}
 use Rattle.fingerprints.specs.Fingerprints.{modulus, join, value-from, Rule-prints}
-
--- a norm, as a wider number
-pub record IsNorm (norm r : ℕ) : Type 0 where
-  pub is : r ≡ norm
-  pub small : r < 65536
+use Rattle.answering.specs.Remainders.{LooksUp}
 
 -- rule r of Y and rule s of X, with a row behind it as it stands: equal moves, and what they leave has equal norms and is equal by the rows
 pub record Agree (e : Rows) (rs sums : List ℕ) (gap : ℕ) (rest : List ℕ) (r s : ℕ) : Type 0 where
@@ -52,16 +48,15 @@ unfoldable pub rest-for : (falls : Bool) → (old new : List ℕ) → List ℕ
 rest-for true o n = n
 rest-for false o n = o
 
--- what the tests before a comparison ask of the rules and of the tail
-pub record Printing (rs prints : List ℕ) (gap value power : ℕ) : Type 0 where
+-- what the test of fingerprints asks of the rules and of the tail
+pub record Printing (rs prints : List ℕ) (value power : ℕ) : Type 0 where
   pub jobs : ℕ
   pub list : GoodList jobs rs
   pub rule-prints : Rule-prints rs prints
-  pub gap-small : gap ≤ 512
   pub value-small : value < modulus
   pub power-small : power < modulus
 
--- what they tell: rules that may agree have equal moves and norms of what they leave; others have not, or have unequal fingerprints
+-- what the tests before a comparison tell: rules that may agree have equal moves and norms of what they leave; others have not, or have unequal fingerprints
 pub record MayAgree (rs sums prints : List ℕ) (gap value power r s : ℕ) (out : Bool) : Type 0 where
   pub move : out ≡ true → rule-at rs r .move ≡ rule-at rs s .move
   pub norm : out ≡ true → getD sums r 0 ≡ getD sums s 0 + gap
@@ -81,10 +76,6 @@ pub record Halves (rs old new area parts : List ℕ) (from to : ℕ) : Type 0 wh
 -- what rule r of Y and rule s of X leave, with a row behind it as it stands, is equal by the rows
 abbrev pub Left-equal : Rows → (rules rest : List ℕ) → (r s : ℕ) → Type 0
 Left-equal e rs rest r s = expand e (rule-at rs r .after) ≡ expand e (rule-at rs s .after) ++ rest
-
--- equal rules have equal norms of their rows
-abbrev pub Sums-alike : (rules sums : List ℕ) → Type 0
-Sums-alike rs sums = (i k : ℕ) → i < k → k < rule-count rs → rule-at rs i ≡ rule-at rs k → getD sums i 0 ≡ getD sums k 0
 
 -- the rule that is tried first
 pub record FirstTried (hint tries total r : ℕ) : Type 0 where
@@ -117,22 +108,20 @@ lead false mine other = other
 pub record EqualOld (old area parts : List ℕ) (y : ℕ) : Type 0 where
   pub is : row old (old-half area) y ≡ expand (row old (old-half area)) parts
 
--- two distinct jobs of which one asks and the other answers, in an area of old and new rows. `parts` is X and its tail; what stands behind
--- X by the old rows is a part of the area, by the new ones the tail itself
+-- two distinct jobs of which one asks and the other answers, in an area of old and new rows. `parts` is X and its tail, whose norm is the gap; what
+-- stands behind X by the old rows is a part of the area, by the new ones the tail itself
 pub record Pairing (rs sums next prints old new area parts : List ℕ) (forward : Bool) (mine other asks tries norm gap value power from to hint : ℕ) : Type 0 where
   pub jobs : ℕ
-  pub list : GoodList jobs rs
+  pub looks : LooksUp jobs rs sums (drop 1 parts) gap
   pub size : length area ≡ 24576
   pub old-within : Within jobs old (old-half area)
   pub new-within : Within jobs new (new-half area)
   pub rule-prints : Rule-prints rs prints
-  pub gap-small : gap ≤ 512
   pub value-small : value < modulus
   pub power-small : power < modulus
   pub some : 1 ≤ length parts
   pub starts : from ≤ to
   pub inside : to ≤ 12288
-  pub alike : Sums-alike rs sums
   pub first : List ℕ
   pub chained : Chained rs first next
   pub mine-job : mine < 24

@@ -18,7 +18,8 @@ ghost use Rattle.bpa.specs.Method.{expand};
 ghost use Rattle.rules.specs.Places.{rule-count};
 ghost use Rattle.rows.specs.Region.{row, old-half, new-half};
 ghost use Rattle.rows.specs.Answers.{Decides};
-ghost use Rattle.answering.specs.Agreeing.{IsNorm, Agree-from, Same-print, Printing, MayAgree, Halves, Left-equal, rows-for, rest-for, FirstTried, RuleBehind, Found, lead, EqualOld, Pairing, MineRule, OldPair, Known, AllAnswered, RulesMatch};
+ghost use Rattle.answering.specs.Remainders.{LooksUp, LookedUp, EqualNorms};
+ghost use Rattle.answering.specs.Agreeing.{Agree-from, Same-print, Printing, MayAgree, Halves, Left-equal, rows-for, rest-for, FirstTried, RuleBehind, Found, lead, EqualOld, Pairing, MineRule, OldPair, Known, AllAnswered, RulesMatch};
 
 // The two jobs, of which `mine` asks and `other` answers; `asks` and `tries` are the places of their first rules. If Y asks, it is
 // forward. The norm is that of the job that asks. The gap is the norm of the tail, value and power are its fingerprint by the old rows, and
@@ -39,11 +40,12 @@ pub struct Pair {
     pub hint: usize,
 }
 
-// A norm as a wider number.
-fn wide_norm(norm: u16) -> u64
-    ensures { λ r. ⌜ IsNorm norm r ⌝ }
+// The norm of what rule r leaves with jobs waiting behind it: the number of its row, made before the rounds, and the norm of those jobs.
+fn remainder_norm(sums: &[u16; 252], r: usize, behind: u64) -> u64
+    requires { ⌜ ((jobs : ℕ) × ((rs : List ℕ) × ((waiting : List ℕ) × (LooksUp jobs rs (now sums) waiting behind × (r < rule-count rs))))) ⌝ }
+    ensures { λ n. ⌜ LookedUp (now (sums .entry)) behind r n ⌝ }
 {
-    norm as u64
+    sums[r] as u64 + behind
 }
 
 // One of two numbers: the first, or the second.
@@ -58,7 +60,7 @@ fn pick(first: bool, a: usize, b: usize) -> usize
 
 // Whether what rule r of Y and rule s of X leave has equal fingerprints, or one of them has none.
 fn same_print(rules: &[u8], prints: &[u32; 300], pair: Pair, r: usize, s: usize) -> bool
-    requires { ⌜ Printing (now rules) (now prints) (pair .gap) (pair .value) (pair .power) ⌝ }
+    requires { ⌜ Printing (now rules) (now prints) (pair .value) (pair .power) ⌝ }
     requires { ⌜ (r < rule-count (now rules)) × (s < rule-count (now rules)) ⌝ }
     ensures { λ out. ⌜ (Same-print (now (rules .entry)) (now (prints .entry)) (pair .value) (pair .power) r s → out ≡ true) ⌝ }
 {
@@ -83,21 +85,22 @@ fn may_agree(
     r: usize,
     s: usize,
 ) -> bool
-    requires { ⌜ Printing (now rules) (now prints) (pair .gap) (pair .value) (pair .power) ⌝ }
+    requires { ⌜ ((jobs : ℕ) × ((waiting : List ℕ) × LooksUp jobs (now rules) (now sums) waiting (pair .gap))) ⌝ }
+    requires { ⌜ Printing (now rules) (now prints) (pair .value) (pair .power) ⌝ }
     requires { ⌜ (r < rule-count (now rules)) × (s < rule-count (now rules)) ⌝ }
     ensures { λ out. ⌜ MayAgree (now (rules .entry)) (now (sums .entry)) (now (prints .entry)) (pair .gap) (pair .value) (pair .power) r s out ⌝ }
 {
     if rule_move(rules, r) != rule_move(rules, s) {
         return false;
     }
-    let gap = pair.gap;
-    if wide_norm(sums[r]) != wide_norm(sums[s]) + gap {
+    if remainder_norm(sums, r, 0) != remainder_norm(sums, s, pair.gap) {
         return false;
     }
     same_print(rules, prints, pair, r, s)
 }
 
 // Whether what rule r of Y and rule s of X leave is equal, the tail standing behind X: by the new rows if the norm falls, else by the old ones.
+// It is written out for that, so it is asked of equal norms only.
 fn left_equal(
     rules: &[u8],
     old: &[u16; 24],
@@ -111,6 +114,7 @@ fn left_equal(
     s: usize,
 ) -> bool
     requires { ⌜ Halves (now rules) (now old) (now new) (now area) (now parts) from to ⌝ }
+    requires { ⌜ ((jobs : ℕ) × EqualNorms jobs (now rules) (drop 1 (now parts)) r s) ⌝ }
     requires { ⌜ (r < rule-count (now rules)) × (s < rule-count (now rules)) ⌝ }
     ensures { λ out. ⌜ Decides out (Left-equal (rows-for falls (row (now (old .entry)) (old-half (now (area .entry)))) (row (now (new .entry)) (new-half (now (area .entry))))) (now (rules .entry)) (rest-for falls (slice from to (now (area .entry))) (drop 1 (now (parts .entry)))) r s) ⌝ }
 {
@@ -144,7 +148,7 @@ fn agrees(
     let y = pick(pair.forward, r, s);
     let x = pick(pair.forward, s, r);
     if may_agree(rules, sums, prints, pair, y, x) {
-        let falls = wide_norm(sums[r]) < pair.norm;
+        let falls = remainder_norm(sums, r, 0) < pair.norm;
         return left_equal(
             rules,
             old,

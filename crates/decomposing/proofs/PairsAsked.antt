@@ -19,10 +19,11 @@ use Rattle.rows.specs.Region.{row, old-half, new-half}
 use Rattle.fingerprints.proofs.Prints.{printable}
 use Rattle.facts.specs.Facts.{norms-in, jobs-in, table-by}
 use Rattle.facts.proofs.Lookups.{first-place}
+use Rattle.answering.specs.Remainders.{LooksUp}
 use Rattle.answering.specs.Agreeing.{Pairing, OldPair, RulesMatch}
 use Rattle.decomposing.specs.Candidates.{Likely, CanPair, PairOf}
 use Rattle.decomposing.proofs.JobsOfTable.{job-by, job-below, over-below}
-use Rattle.decomposing.proofs.RulePlaces.{sums-alike, match-fits, fits-match}
+use Rattle.decomposing.proofs.RulePlaces.{match-fits, fits-match}
 use Rattle.decomposing.proofs.RowEnds.{no-longer, behind-is}
 use Rattle.decomposing.proofs.EqualPrints.{print-small, rules-same-print, jobs-same-print}
 use Rattle.decomposing.proofs.FoundTails.{FoundTail}
@@ -82,21 +83,32 @@ module _ {rs facts sums next prints old new area : List ℕ} {place y : ℕ} {lo
         behind-is (jobs-in facts) old area w y x (y-job u) (x-job u) tail h from to
         (p .from-is (no-longer (jobs-in facts) old area w y x (y-job u) (x-job u) tail h)) (p .to-is)
 
+    -- the norms of what the rules leave are looked up, the tail waiting behind those of x
+    looks : LooksUp (jobs-in facts) rs sums tail gap
+    unfolding table-by
+    looks = record {
+      norms = ns;
+      list = u .asked .tables .list;
+      good = u .asked .tables .good;
+      row-norms = u .asked .tables .row-norms;
+      inside = found .inside;
+      behind-is = gap-is;
+      small = omega (arith, p .gap-is, p .norm-is, u .asked .tables .small y (y-job u));
+    }
+
     pairing : Pairing rs sums next prints old new area (x ∷ tail) true y x asks tries norm gap value power from to hint
     pairing = record {
       jobs = jobs-in facts;
-      list = u .asked .tables .list;
+      looks = looks;
       size = u .asked .size;
       old-within = u .asked .old-within;
       new-within = u .asked .new-within;
       rule-prints = u .asked .rule-printed;
-      gap-small = omega (arith, p .gap-is, p .norm-is, u .asked .tables .small y (y-job u));
       value-small = p .value-small;
       power-small = p .power-small;
       some = omega arith;
       starts = p .ordered;
       inside = omega (arith, p .to-is, y-small u, u .asked .old-within .short y (y-job u));
-      alike = sums-alike rs ns sums (u .asked .tables .row-norms);
       first = u .asked .tables .first;
       chained = u .asked .tables .chained;
       mine-job = y-small u;

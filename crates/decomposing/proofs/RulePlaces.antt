@@ -18,12 +18,7 @@ use Rattle.rules.specs.Places.{rule-at}
 use Rattle.rules.proofs.ListLaws.{rule-of, place-of-rule}
 use Rattle.prepare.specs.Prepared.{RowNorms}
 use Rattle.facts.specs.Facts.{norms-in, jobs-in, table-by}
-use Rattle.answering.specs.Agreeing.{Agree, MineRule, RulesMatch, Sums-alike, rows-for, rest-for}
-
--- equal rules have equal norms of their rows
-pub sums-alike : (rs ns sums : List ℕ) → RowNorms rs ns sums → Sums-alike rs sums
-sums-alike rs ns sums n i k l b same =
-    n .at i (omega arith) .is ∙ ap (λ (r : Rule). sum-of ns (r .after)) same ∙ sym (n .at k b .is)
+use Rattle.answering.specs.Agreeing.{Agree, MineRule, RulesMatch, rows-for, rest-for}
 
 -- THE ROWS by which a rule is answered, and what stands behind X by them
 module _ (d e : Rows) (behind tail : List ℕ) (P : Rows → List ℕ → Type 0) where

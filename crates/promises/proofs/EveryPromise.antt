@@ -2,6 +2,7 @@
 use Rattle.promises.specs.EveryPromise.{EveryPromise}
 use Rattle.promises.proofs.Promises as promises
 use Rattle.promises.proofs.Calls as calls
+use Rattle.promises.proofs.Remainders as remainders
 use Rattle.promises.proofs.WorkedCases as workedcases
 
 pub every-promise : EveryPromise
@@ -49,5 +50,9 @@ every-promise = record {
   form-written = calls.form-written;
   stands-written = calls.stands-written;
   forms-written = calls.forms-written;
+  rows-normed = remainders.rows-normed;
+  remainders-normed = remainders.remainders-normed;
+  unequal-norms = remainders.unequal-norms;
+  unequal-remainders = remainders.unequal-remainders;
   cases-hold = workedcases.cases-hold;
 }

@@ -4,5 +4,6 @@ pub mod ExactRefusals
 pub mod ListedMoves
 pub mod Promises
 pub mod Calls
+pub mod Remainders
 pub mod WorkedCases
 pub mod EveryPromise

@@ -2,6 +2,7 @@
 -- Assumes nothing: this is a definition.
 use Rattle.promises.specs.Promises as promises
 use Rattle.promises.specs.Calls as calls
+use Rattle.promises.specs.Remainders as remainders
 use Rattle.promises.specs.WorkedCases as workedcases
 
 pub record EveryPromise : Type 1 where
@@ -56,5 +57,10 @@ pub record EveryPromise : Type 1 where
   pub form-written : calls.Form-written
   pub stands-written : calls.Stands-written
   pub forms-written : calls.Forms-written
+  -- THE NORMS THAT THE ROUNDS LOOK UP
+  pub rows-normed : remainders.Rows-normed
+  pub remainders-normed : remainders.Remainders-normed
+  pub unequal-norms : remainders.Unequal-norms
+  pub unequal-remainders : remainders.Unequal-remainders
   -- THE WORKED CASES
   pub cases-hold : workedcases.Cases-hold

@@ -1,8 +1,8 @@
 -- `agrees` meets its contract: rules that may agree do so exactly if what they leave is equal by the rows that the asking one asks for.
 -- Assumes nothing.
-use mathlib.Core.Path.{ap, subst}
+use mathlib.Core.Path.{_≡_, ap, subst}
 use mathlib.Core.Bool.{Bool}
-use mathlib.Core.List.{List}
+use mathlib.Core.List.{List, []}
 use Prim.Native.Nat.{ℕ, _<_}
 use native.Mathlib.Omega.{arith}
 use lib.Dec.{ltb}
@@ -14,6 +14,7 @@ use Rattle.rules.specs.Places.{rule-count}
 use Rattle.rows.specs.Region.{row, old-half, new-half}
 use Rattle.rows.specs.Answers.{Decides}
 use Rattle.answering.specs.Agreeing.{Left-equal, rows-for, rest-for, lead}
+use Rattle.answering.proofs.RemainderNorms.{nothing-waits, equal-norms}
 use Rattle.answering.proofs.RowsAsked.{pair-printing, pair-halves}
 use Rattle.answering.proofs.LedRules.{led-below, may-not, may-if-equal}
 use Rattle.answering.proofs.agrees.Statement.{statement}
@@ -68,23 +69,41 @@ module _ (c : tie.After-pick2) where
       (omega (arith, c .before .pick .ensures, h .0), omega (arith, c .pick2 .ensures, h .1))
 
 may-agree-requires : tie.Need-may-agree-requires
-may-agree-requires c κs = (pair-printing (start c .pre .0 .1), within c)
+may-agree-requires c κs =
+    let p = start c .pre .0 .1 in
+    ((p .jobs, (drop 1 (parts (start c)), p .looks)), (pair-printing p, within c))
+
+remainder-norm-requires : tie.Need-remainder-norm-requires
+remainder-norm-requires c κs =
+    let at = start (c .before .before) in
+    let p = at .pre .0 .1 in
+    (p .jobs, (rs at, ([], (nothing-waits (p .looks), at .pre .1 .1 .0 .inside))))
 
 left-equal-requires : tie.Need-left-equal-requires
 left-equal-requires c κs =
-    let picked = c .before .before .before .before .before in
-    (pair-halves (start picked .pre .0 .1), within picked)
+    let test = c .before .before in
+    let may = test .before in
+    let picked = may .before in
+    let at = start picked in
+    let p = at .pre .0 .1 in
+    let same = may .may-agree .ensures .norm (test .if1 .taken) in (
+      pair-halves p,
+      (
+        (p .jobs, equal-norms (p .looks) (picked .before .pick .result) (picked .pick2 .result) (within picked .0) (within picked .1) same),
+        within picked,
+      ),
+    )
 
 returns : tie.Need-returns
 returns c =
     let norm = c .before .before in
-    let test = norm .before .before in
+    let test = norm .before in
     let may = test .before in
     let picked = may .before in
     let at = start picked in
     let y = picked .before .pick .result in
     let x = picked .pick2 .result in
-    let same = ap (λ (n : ℕ). ltb n (at .args .pair .norm)) (norm .wide-norm .ensures .is) in
+    let same = ap (λ (n : ℕ). ltb n (at .args .pair .norm)) (let e : norm .remainder-norm .result ≡ getD (sums at) (r at) 0 = omega (arith, norm .remainder-norm .ensures .is) in e) in
     may-if-equal (rows-by at (falls at)) (rs at) (sums at) (at .args .pair .gap) (rest-by at (falls at)) (r at) (s at) (forward at)
     (at .args .prints .now) (at .args .pair .value) (at .args .pair .power) y x (picked .before .pick .ensures) (picked .pick2 .ensures)
     (may .may-agree .result) (may .may-agree .ensures) (test .if1 .taken) (c .left-equal .result)
@@ -107,9 +126,7 @@ agrees-spec =
     (λ c κs. search needs)  -- pick-requires
     (λ c κs. search needs)  -- pick-requires-2
     may-agree-requires
-    (λ c. search needs)  -- mul-wide-norm
-    (λ c. search needs)  -- element-copy-out-wide-norm
-    (λ c κs. search needs)  -- wide-norm-requires
+    remainder-norm-requires
     left-equal-requires
     returns
     returns-2)

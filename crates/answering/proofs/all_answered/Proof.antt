@@ -16,6 +16,7 @@ use Rattle.rows.specs.Region.{row, old-half, new-half}
 use Rattle.answering.specs.Agreeing.{rows-for, rest-for, Found, MineRule, lead, EqualOld, Answered, Known}
 use Rattle.answering.specs.declared.Pair.{Pair}
 use Rattle.prepare.proofs.PassedRules.{Passed, passed-start, inside, passed-next}
+use Rattle.answering.proofs.RemainderNorms.{alike}
 use Rattle.answering.proofs.EqualRules.{answered-alike}
 use Rattle.answering.proofs.KnownRules.{found-answers, known-more, none-answered, every-answered}
 use Rattle.answering.proofs.Hints.{Hinted, Paired, hinted-start, pairing-hinted, hinted-next}
@@ -140,7 +141,7 @@ module _ (c : tie.In-loop Inv-loop μ-loop) where
       (c .loop-test .taken)
 
   few : k < 252
-  few = omega (arith, here, pairing entry .list .few)
+  few = omega (arith, here, pairing entry .looks .list .few)
 
   mine-rule : MineRule (rs entry) (mine entry) k
   mine-rule = record { inside = here; own = passed .on .own here }
@@ -157,7 +158,7 @@ goes-on c a =
     let start = entry turn in
     passed-next (rs start) (pairing start .first) (next start) (pairing start .chained) (mine start) (total turn) (Mine-answered start) (k turn)
     (passed turn) (turn .loop-test .taken)
-    (answered-alike (forward start) (rs start) (sums start) (pairing start .alike) (gap start) (d start) (e start) (norm start) (behind start)
+    (answered-alike (forward start) (rs start) (sums start) (alike (pairing start .looks)) (gap start) (d start) (e start) (norm start) (behind start)
     (tail start) (other start)) a (c .wide .result) (c .wide .ensures .is)
 
 element-copy-out-wide : tie.Need-element-copy-out-wide Inv-loop μ-loop
@@ -230,10 +231,10 @@ is-rule : (c : tie.Else2 Inv-loop μ-loop) → s (c .before) < rule-count (rs (s
 is-rule c = omega (arith, c .if2 .left, found (c .before) .within, passed (turn (c .before)) .count)
 
 element-write-known : tie.Need-element-write-known Inv-loop μ-loop
-element-write-known c = omega (arith, is-rule c, pairing (start (c .before)) .list .few)
+element-write-known c = omega (arith, is-rule c, pairing (start (c .before)) .looks .list .few)
 
 element-copy-out-wide-2 : tie.Need-element-copy-out-wide-2 Inv-loop μ-loop
-element-copy-out-wide-2 c = omega (arith, is-rule c, pairing (start (c .before)) .list .few)
+element-copy-out-wide-2 c = omega (arith, is-rule c, pairing (start (c .before)) .looks .list .few)
 
 wide-requires-2 : tie.Need-wide-requires-2 Inv-loop μ-loop
 wide-requires-2 c κs = search needs

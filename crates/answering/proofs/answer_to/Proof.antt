@@ -13,6 +13,7 @@ use Rattle.rules.specs.Places.{rule-count}
 use Rattle.rows.specs.Region.{row, old-half, new-half}
 use Rattle.answering.specs.Agreeing.{rows-for, rest-for}
 use Rattle.answering.proofs.RuleSearch.{Searching, search-start, search-next, search-less, Apart, apart, found-here, found-none}
+use Rattle.answering.proofs.RemainderNorms.{alike}
 use Rattle.answering.proofs.EqualRules.{apart-alike}
 use Rattle.answering.proofs.Hints.{Paired}
 use Rattle.answering.proofs.answer_to.Statement.{statement}
@@ -105,7 +106,7 @@ module _ (c : tie.In-loop Inv-loop μ-loop) where
   here = omega (arith, count, c .loop-test .taken)
 
 rule-behind-requires : tie.Need-rule-behind-requires Inv-loop μ-loop
-rule-behind-requires c κs = omega (arith, count c, pairing (entry c) .list .few)
+rule-behind-requires c κs = omega (arith, count c, pairing (entry c) .looks .list .few)
 
 agrees-requires : tie.Need-agrees-requires Inv-loop μ-loop
 agrees-requires c κs =
@@ -144,7 +145,7 @@ loop-again c =
       count turn,
       search-next (rs at) (pairing at .first) (next at) (pairing at .chained) (other at) (total turn) (count turn) (Off-here at) (s turn) (k turn)
           (behind .rule-behind .result) (searching turn) (turn .loop-test .taken)
-          (apart-alike (forward at) (rs at) (sums at) (pairing at .alike) (gap at) (asked at) (rest at) (r at)) (off c)
+          (apart-alike (forward at) (rs at) (sums at) (alike (pairing at .looks)) (gap at) (asked at) (rest at) (r at)) (off c)
           (behind .rule-behind .ensures),
     )
 

@@ -135,7 +135,7 @@ all-answered-requires c κs =
     let equal = subst (Equal-from start) (sym (start .pre .1 .1 .0)) (equal-old (c .before)) in
     let none =
     known-none (start .args .pair .forward) (d start) (e start) (rs start) (sums start) (norm start) (gap start) (behind start) (tail start)
-    (y start) (x start) (pairing start .list .few) in
+    (y start) (x start) (pairing start .looks .list .few) in
     (start .pre .0, (equal, none))
 
 -- what the first pass told

@@ -74,17 +74,17 @@ module _ (c : tie.Start) where
       p ≡ rule-at rs (c .args .r) .after → q ≡ rule-at rs (c .args .s) .after → Comparable lens region p q
   comparable lens half region w g p q f h =
       afters-comparable (halves .jobs) rs lens region (halves .list) (subst (Within (halves .jobs) lens) (sym g) w) (c .args .r) (c .args .s) p q
-      (c .pre .1 .0) (c .pre .1 .1) f h
+      (c .pre .1 .1 .0) (c .pre .1 .1 .1) f h
 
 rule-after-requires : tie.Need-rule-after-requires
 rule-after-requires c κs =
     let at = c .before .before .before in
-    good-has-place (halves at .jobs) (rs at) (halves at .list) (at .args .r) (at .pre .1 .0)
+    good-has-place (halves at .jobs) (rs at) (halves at .list) (at .args .r) (at .pre .1 .1 .0)
 
 rule-after-requires-2 : tie.Need-rule-after-requires-2
 rule-after-requires-2 c κs =
     let at = c .before .before .before .before in
-    good-has-place (halves at .jobs) (rs at) (halves at .list) (at .args .s) (at .pre .1 .1)
+    good-has-place (halves at .jobs) (rs at) (halves at .list) (at .args .s) (at .pre .1 .1 .1)
 
 same-forms-requires : tie.Need-same-forms-requires
 same-forms-requires c κs =

@@ -13,7 +13,7 @@ use Rattle.bpa.proofs.Norm.KnownPlans.{known-cons}
 use Rattle.bpa.proofs.Norm.NormStable.{norms-length}
 use Rattle.bpa.proofs.Norm.NormExact.{job-by-rule, job-least}
 
-pub plan-known : (t : Table) → ((j : ℕ) → j < t .jobs → 0 < getD (norms t) j 0) →
+plan-known : (t : Table) → ((j : ℕ) → j < t .jobs → 0 < getD (norms t) j 0) →
     (p : List ℕ) → over t p ≡ true → all-known (norms t) p ≡ true
 unfolding all-known
 plan-known t f [] o = refl

@@ -63,7 +63,7 @@ module _ (t : Table) (closed : (j a : ℕ) (w : List ℕ) → HasRule t j a w �
   unfolding norm sum-of all-known
   run-plan r o = let (k, l) = run-known r o refl in (k, omega arith)
 
-  pub plan-norm : (p : List ℕ) → over t p ≡ true → all-known (norms t) p ≡ true → Fewest t p (norm t p)
+  plan-norm : (p : List ℕ) → over t p ≡ true → all-known (norms t) p ≡ true → Fewest t p (norm t p)
   plan-norm p o k = (norm-run t p k, λ run r. run-plan r o .1)
 
   pub job-norm : (j : ℕ) → j < t .jobs → 0 < getD (norms t) j 0 → Fewest t (j ∷ []) (getD (norms t) j 0)

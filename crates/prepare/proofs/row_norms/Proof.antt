@@ -47,6 +47,21 @@ module _ (c : tie.In-loop Inv-loop μ-loop) where
   few : c .before .loop .i < 252
   few = omega (arith, inside, good .few)
 
+-- the place holds the norm of its own rule
+loop-again : tie.Need-loop-again Inv-loop μ-loop
+loop-again c =
+    let d = c .before .before in
+    let ns = start d .args .norms .now in
+    let i = d .before .loop .i in
+    let inv = d .before .loop .inv in (
+      omega arith,
+      inv .1,
+      rw length-set (inv .2),
+      stored-more (λ k v. RowNorm ns (rule-at (rs d) k .after) v) (d .before .loop .out) i (c .row-norm .result)
+          (omega (arith, few d)) (inv .3)
+          (subst (λ (l : List ℕ). RowNorm ns l (c .row-norm .result)) (c .before .rule-after .ensures) (c .row-norm .ensures)),
+    )
+
 rule-after-requires : tie.Need-rule-after-requires Inv-loop μ-loop
 rule-after-requires c κs = good-has-place (start c .pre .0) (rs c) (good c) (c .before .loop .i) (inside c)
 
@@ -75,20 +90,6 @@ add-i c = omega arith
 
 loop-less : tie.Need-loop-less Inv-loop μ-loop
 loop-less c = omega arith
-
-loop-again : tie.Need-loop-again Inv-loop μ-loop
-loop-again c =
-    let d = c .before .before in
-    let ns = start d .args .norms .now in
-    let i = d .before .loop .i in
-    let inv = d .before .loop .inv in (
-      omega arith,
-      inv .1,
-      rw length-set (inv .2),
-      stored-more (λ k v. RowNorm ns (rule-at (rs d) k .after) v) (d .before .loop .out) i (c .row-norm .result)
-          (omega (arith, few d)) (inv .3)
-          (subst (λ (l : List ℕ). RowNorm ns l (c .row-norm .result)) (c .before .rule-after .ensures) (c .row-norm .ensures)),
-    )
 
 returns : tie.Need-returns Inv-loop μ-loop
 returns c =

@@ -1,0 +1,93 @@
+-- The promises about the norms that the rounds look up, each with its proved term. Assumes nothing.
+use mathlib.Core.Path.{_≡_, refl, sym, subst, _∙_}
+use mathlib.Core.Bool.{Bool, true, false}
+use mathlib.Core.List.{List, [], _∷_, _++_}
+use Prim.Native.Nat.{ℕ, _+_, _<_}
+use native.Mathlib.Decide.{decLt}
+use native.Mathlib.Omega.{arith}
+use lib.ListN.{getD}
+use Rattle.bpa.specs.Plans.{Table, over, all-below}
+use Rattle.bpa.specs.Norms.{sum-of, norms, Fewest, Good}
+use Rattle.bpa.specs.Bisimilar.{Any-bisimulation}
+use Rattle.bpa.proofs.Basics.Cases.{by-test}
+use Rattle.bpa.proofs.Rounds.Equivalence.{any-within, equivalent-norm}
+use Rattle.bpa.proofs.Norm.NormExact.{job-without}
+use Rattle.bpa.proofs.Norm.NormFewest.{sum-fewest}
+use Rattle.bpa.proofs.Norm.GoodTable.{finite-good}
+use Rattle.rules.specs.Places.{rule-at, table-of}
+use Rattle.refusal.specs.Refusals.{Closed}
+use Rattle.facts.specs.Facts.{table-by, jobs-in, norms-in}
+use Rattle.answering.specs.Remainders.{LooksUp}
+use Rattle.answering.specs.Agreeing.{MayAgree}
+use Rattle.answering.proofs.RemainderNorms.{row-norm, row-over, remainder-norm, remainder-over, remainder-sum}
+use Rattle.promises.specs.Remainders as promised
+
+pub rows-normed : promised.Rows-normed
+unfolding promised.Rows-normed table-by over all-below sum-of
+rows-normed rs sums next facts i t h = row-norm looks i h
+  where
+    looks : LooksUp (jobs-in facts) rs sums [] 0
+    looks = record {
+      norms = norms-in facts;
+      list = t .list;
+      good = t .good;
+      row-norms = t .row-norms;
+      inside = refl;
+      behind-is = refl;
+      small = omega arith;
+    }
+
+pub remainders-normed : promised.Remainders-normed
+unfolding promised.Remainders-normed
+remainders-normed jobs rs sums waiting behind r number l h k =
+    subst (Fewest (table-of jobs rs) (rule-at rs r .after ++ waiting)) (sym (k .is)) (remainder-norm l r h)
+
+-- two counts of the fewest moves of a plan are equal
+fewest-one : (t : Table) (p : List ℕ) (v w : ℕ) → Fewest t p v → Fewest t p w → v ≡ w
+fewest-one t p v w ((a, f, e), g) ((b, h, k), l) = omega (arith, e, k, g b h, l a f)
+
+-- a closed table whose jobs have norms is good
+module _ (t : Table) (closed : Closed t) (finite : (j : ℕ) → j < t .jobs → (u : ℕ) × Fewest t (j ∷ []) u) where
+  known : (j : ℕ) → j < t .jobs → 0 < getD (norms t) j 0
+  known j h = decided (decLt 0 (getD (norms t) j 0))
+    where
+      decided : Dec (0 < getD (norms t) j 0) → 0 < getD (norms t) j 0
+      decided (yes k) = k
+      decided (no k) =
+          let (u, ((run, r, e), l)) = finite j h in
+          absurd (job-without t closed j h .0 (omega arith) run r)
+
+  good : Good t (norms t)
+  good = finite-good t closed known
+
+-- by numbers for which a table is good, related plans have equal sums
+module _ (t : Table) (ns : List ℕ) (g : Good t ns) (p q : List ℕ) (o : over t p ≡ true) (o′ : over t q ≡ true)
+    (R : List ℕ → List ℕ → Type 0) (b : Any-bisimulation t R) (related : R p q) where
+  sums-equal : sum-of ns p ≡ sum-of ns q
+  sums-equal = equivalent-norm t ns g p q o o′ (any-within t ns g R b p q o o′ related)
+
+pub unequal-norms : promised.Unequal-norms
+unfolding promised.Unequal-norms
+unequal-norms t p q v w c f o o′ a b n R k r =
+    let g = good t c f in
+    n
+    (fewest-one t p v (sum-of (norms t) p) a (sum-fewest t (norms t) g p o)
+    ∙ sums-equal t (norms t) g p q o o′ R k r
+    ∙ fewest-one t q (sum-of (norms t) q) w (sum-fewest t (norms t) g q o′) b)
+
+pub unequal-remainders : promised.Unequal-remainders
+unfolding promised.Unequal-remainders
+unequal-remainders jobs rs sums waiting gap r s v w l h k a b n = (told, apart)
+  where
+    differ : getD sums r 0 ≡ getD sums s 0 + gap → ⊥
+    differ e = n (omega (arith, a .is, b .is, e))
+
+    told : (prints : List ℕ) (value power : ℕ) (out : Bool) → MayAgree rs sums prints gap value power r s out → out ≡ false
+    told prints value power out m = by-test out (λ yes. absurd (differ (m .norm yes))) (λ no. no)
+
+    apart : (R : List ℕ → List ℕ → Type 0) → Any-bisimulation (table-of jobs rs) R → R (rule-at rs r .after) (rule-at rs s .after ++ waiting) → ⊥
+    apart R c related =
+        let same =
+        sums-equal (table-of jobs rs) (l .norms) (l .good) (rule-at rs r .after) (rule-at rs s .after ++ waiting) (row-over l r h)
+        (remainder-over l s k) R c related in
+        differ (l .row-norms .at r h .is ∙ same ∙ remainder-sum l s k)
