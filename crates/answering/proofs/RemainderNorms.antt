@@ -2,30 +2,37 @@
 -- Assumes nothing.
 use mathlib.Core.Path.{_≡_, refl, sym, ap, subst, _∙_}
 use mathlib.Core.Bool.{true}
-use mathlib.Core.List.{List, [], _++_, append-nil}
+use mathlib.Core.List.{List, [], _++_}
 use Prim.Native.Nat.{ℕ, _+_, _<_}
 use native.Mathlib.Omega.{arith}
 use lib.ListN.{getD}
 use Rattle.bpa.specs.Plans.{Rule, Table, over, all-below}
-use Rattle.bpa.specs.Norms.{sum-of, Fewest}
+use Rattle.bpa.specs.Norms.{sum-of, Fewest, Good}
 use Rattle.bpa.proofs.Basics.Plans.{over-append, sum-append}
 use Rattle.bpa.proofs.Norm.NormFewest.{sum-fewest}
 use Rattle.rules.specs.Places.{rule-at, rule-count, table-of}
+use Rattle.rules.specs.Lists.{GoodList}
 use Rattle.rules.proofs.ListLaws.{good-rule}
+use Rattle.prepare.specs.Prepared.{RowNorms}
 use Rattle.answering.specs.Remainders.{LooksUp, EqualNorms}
+
+-- a look at a rule's row alone
+pub row-looks : {jobs : ℕ} {rs norms sums : List ℕ} → GoodList jobs rs → Good (table-of jobs rs) norms → RowNorms rs norms sums →
+    LooksUp jobs rs sums [] 0
+unfolding over all-below sum-of
+row-looks {norms = ns} list good row-norms = record {
+  norms = ns;
+  list = list;
+  good = good;
+  row-norms = row-norms;
+  inside = refl;
+  behind-is = refl;
+  small = omega arith;
+}
 
 module _ {jobs : ℕ} {rs sums waiting : List ℕ} {behind : ℕ} (l : LooksUp jobs rs sums waiting behind) where
   pub nothing-waits : LooksUp jobs rs sums [] 0
-  unfolding over all-below sum-of
-  nothing-waits = record {
-    norms = l .norms;
-    list = l .list;
-    good = l .good;
-    row-norms = l .row-norms;
-    inside = refl;
-    behind-is = refl;
-    small = omega arith;
-  }
+  nothing-waits = row-looks (l .list) (l .good) (l .row-norms)
 
   pub row-small : (i : ℕ) → i < rule-count rs → getD sums i 0 + behind < 65536
   row-small i h = omega (arith, l .row-norms .at i h .small, l .small)
@@ -54,19 +61,16 @@ module _ {jobs : ℕ} {rs sums waiting : List ℕ} {behind : ℕ} (l : LooksUp j
       subst (Fewest t (rule-at rs r .after ++ waiting)) (remainder-sum r h)
       (sum-fewest t (l .norms) (l .good) (rule-at rs r .after ++ waiting) (remainder-over r h))
 
--- with nothing waiting, that of the rule's row
-pub row-norm : {jobs : ℕ} {rs sums : List ℕ} → LooksUp jobs rs sums [] 0 → (r : ℕ) → r < rule-count rs →
-    Fewest (table-of jobs rs) (rule-at rs r .after) (getD sums r 0)
-row-norm {jobs} {rs} {sums} l r h =
-    subst (λ (p : List ℕ). Fewest (table-of jobs rs) p (getD sums r 0)) (append-nil (rule-at rs r .after))
-    (subst (Fewest (table-of jobs rs) (rule-at rs r .after ++ [])) (let e : getD sums r 0 + 0 ≡ getD sums r 0 = omega arith in e)
-    (remainder-norm l r h))
+  -- and without the jobs that wait that of the rule's row
+  pub row-norm : (r : ℕ) → r < rule-count rs → Fewest t (rule-at rs r .after) (getD sums r 0)
+  row-norm r h =
+      subst (Fewest t (rule-at rs r .after)) (sym (l .row-norms .at r h .is))
+      (sum-fewest t (l .norms) (l .good) (rule-at rs r .after) (row-over r h))
 
--- equal numbers are those of remainders with equal norms
-pub equal-norms : {jobs : ℕ} {rs sums waiting : List ℕ} {behind : ℕ} → LooksUp jobs rs sums waiting behind → (r s : ℕ) → r < rule-count rs →
-    s < rule-count rs → getD sums r 0 ≡ getD sums s 0 + behind → EqualNorms jobs rs waiting r s
-equal-norms {jobs} {rs} {sums} {waiting} l r s h k e = record {
-  norm = getD sums r 0;
-  left = row-norm (nothing-waits l) r h;
-  right = subst (Fewest (table-of jobs rs) (rule-at rs s .after ++ waiting)) (sym e) (remainder-norm l s k);
-}
+  -- equal numbers are those of remainders with equal norms
+  pub equal-norms : (r s : ℕ) → r < rule-count rs → s < rule-count rs → getD sums r 0 ≡ getD sums s 0 + behind → EqualNorms jobs rs waiting r s
+  equal-norms r s h k e = record {
+    norm = getD sums r 0;
+    left = row-norm r h;
+    right = subst (Fewest t (rule-at rs s .after ++ waiting)) (sym e) (remainder-norm s k);
+  }

@@ -56,7 +56,8 @@ pub record Printing (rs prints : List ℕ) (value power : ℕ) : Type 0 where
   pub value-small : value < modulus
   pub power-small : power < modulus
 
--- what the tests before a comparison tell: rules that may agree have equal moves and norms of what they leave; others have not, or have unequal fingerprints
+-- what the tests before a comparison tell: rules that may agree have equal moves and norms of what they leave; others have not, or have
+-- unequal fingerprints
 pub record MayAgree (rs sums prints : List ℕ) (gap value power r s : ℕ) (out : Bool) : Type 0 where
   pub move : out ≡ true → rule-at rs r .move ≡ rule-at rs s .move
   pub norm : out ≡ true → getD sums r 0 ≡ getD sums s 0 + gap

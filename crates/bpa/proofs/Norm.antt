@@ -2,6 +2,7 @@
 pub mod KnownPlans
 pub mod NormRounds
 pub mod NormStable
+pub mod RunLengths
 pub mod NormExact
 pub mod GoodTable
 pub mod NormFewest

@@ -1,41 +1,28 @@
 -- The promises about the norms that the rounds look up, each with its proved term. Assumes nothing.
-use mathlib.Core.Path.{_≡_, refl, sym, subst, _∙_}
+use mathlib.Core.Path.{_≡_, sym, subst, _∙_}
 use mathlib.Core.Bool.{Bool, true, false}
 use mathlib.Core.List.{List, [], _∷_, _++_}
 use Prim.Native.Nat.{ℕ, _+_, _<_}
-use native.Mathlib.Decide.{decLt}
 use native.Mathlib.Omega.{arith}
 use lib.ListN.{getD}
-use Rattle.bpa.specs.Plans.{Table, over, all-below}
+use Rattle.bpa.specs.Plans.{Table, over}
 use Rattle.bpa.specs.Norms.{sum-of, norms, Fewest, Good}
 use Rattle.bpa.specs.Bisimilar.{Any-bisimulation}
 use Rattle.bpa.proofs.Basics.Cases.{by-test}
 use Rattle.bpa.proofs.Rounds.Equivalence.{any-within, equivalent-norm}
-use Rattle.bpa.proofs.Norm.NormExact.{job-without}
 use Rattle.bpa.proofs.Norm.NormFewest.{sum-fewest}
 use Rattle.bpa.proofs.Norm.GoodTable.{finite-good}
 use Rattle.rules.specs.Places.{rule-at, table-of}
 use Rattle.refusal.specs.Refusals.{Closed}
-use Rattle.facts.specs.Facts.{table-by, jobs-in, norms-in}
-use Rattle.answering.specs.Remainders.{LooksUp}
+use Rattle.refusal.proofs.TableRefusals.{finite}
+use Rattle.facts.specs.Facts.{table-by}
 use Rattle.answering.specs.Agreeing.{MayAgree}
-use Rattle.answering.proofs.RemainderNorms.{row-norm, row-over, remainder-norm, remainder-over, remainder-sum}
+use Rattle.answering.proofs.RemainderNorms.{row-looks, row-norm, row-over, remainder-norm, remainder-over, remainder-sum}
 use Rattle.promises.specs.Remainders as promised
 
 pub rows-normed : promised.Rows-normed
-unfolding promised.Rows-normed table-by over all-below sum-of
-rows-normed rs sums next facts i t h = row-norm looks i h
-  where
-    looks : LooksUp (jobs-in facts) rs sums [] 0
-    looks = record {
-      norms = norms-in facts;
-      list = t .list;
-      good = t .good;
-      row-norms = t .row-norms;
-      inside = refl;
-      behind-is = refl;
-      small = omega arith;
-    }
+unfolding promised.Rows-normed table-by
+rows-normed rs sums next facts i t h = row-norm (row-looks (t .list) (t .good) (t .row-norms)) i h
 
 pub remainders-normed : promised.Remainders-normed
 unfolding promised.Remainders-normed
@@ -47,18 +34,8 @@ fewest-one : (t : Table) (p : List ℕ) (v w : ℕ) → Fewest t p v → Fewest 
 fewest-one t p v w ((a, f, e), g) ((b, h, k), l) = omega (arith, e, k, g b h, l a f)
 
 -- a closed table whose jobs have norms is good
-module _ (t : Table) (closed : Closed t) (finite : (j : ℕ) → j < t .jobs → (u : ℕ) × Fewest t (j ∷ []) u) where
-  known : (j : ℕ) → j < t .jobs → 0 < getD (norms t) j 0
-  known j h = decided (decLt 0 (getD (norms t) j 0))
-    where
-      decided : Dec (0 < getD (norms t) j 0) → 0 < getD (norms t) j 0
-      decided (yes k) = k
-      decided (no k) =
-          let (u, ((run, r, e), l)) = finite j h in
-          absurd (job-without t closed j h .0 (omega arith) run r)
-
-  good : Good t (norms t)
-  good = finite-good t closed known
+good : (t : Table) → Closed t → ((j : ℕ) → j < t .jobs → (u : ℕ) × Fewest t (j ∷ []) u) → Good t (norms t)
+good t closed runs = finite-good t closed (λ j h. let (u, f) = runs j h in finite t closed j u h f .0)
 
 -- by numbers for which a table is good, related plans have equal sums
 module _ (t : Table) (ns : List ℕ) (g : Good t ns) (p q : List ℕ) (o : over t p ≡ true) (o′ : over t q ≡ true)

@@ -85,7 +85,7 @@ module _ (t : Table) where
     )
 
     -- a job with a run to its end has its norm as the fewest moves
-    finite : (j v : ℕ) → j < t .jobs → Fewest t (j ∷ []) v → (0 < getD (norms t) j 0) × (v ≤ getD (norms t) j 0)
+    pub finite : (j v : ℕ) → j < t .jobs → Fewest t (j ∷ []) v → (0 < getD (norms t) j 0) × (v ≤ getD (norms t) j 0)
     finite j v l f = go (getD (norms t) j 0) refl
       where
         go : (m : ℕ) → getD (norms t) j 0 ≡ m → (0 < getD (norms t) j 0) × (v ≤ getD (norms t) j 0)

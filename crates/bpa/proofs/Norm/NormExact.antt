@@ -3,16 +3,17 @@ use mathlib.Core.Path.{_≡_, refl, ap, subst}
 use mathlib.Core.Bool.{true}
 use mathlib.Core.List.{List, [], _∷_, _++_}
 use mathlib.Core.Logic.{_↔_}
-use Prim.Native.Nat.{ℕ, zero, suc, _+_, _≤_, _<_}
+use Prim.Native.Nat.{ℕ, suc, _+_, _≤_, _<_}
 use native.Mathlib.Decide.{decLt}
 use native.Mathlib.Omega.{arith}
 use lib.ListN.{length, getD}
-use Rattle.bpa.specs.Plans.{Table, over, HasRule, Step, Runs, empty-run, longer-run}
+use Rattle.bpa.specs.Plans.{Table, over, HasRule, Step, Runs}
 use Rattle.bpa.specs.Norms.{sum-of, all-known, norms, norm, Fewest, Endless}
-use Rattle.bpa.proofs.Basics.Plans.{over-head, over-one, sum-append, sum-one, closed-step}
+use Rattle.bpa.proofs.Basics.Plans.{over-head, over-one, sum-append, sum-one}
 use Rattle.bpa.proofs.Norm.NormRounds.{Found, By-rule, next-by-rule, next-least}
 use Rattle.bpa.proofs.Norm.KnownPlans.{known-parts, known-cons, known-append, known-split}
 use Rattle.bpa.proofs.Norm.NormStable.{norms-stable}
+use Rattle.bpa.proofs.Norm.RunLengths.{run-down, run-back}
 
 module _ (t : Table) where
   -- a job's norm comes from a rule, and no rule gives a lower one
@@ -23,23 +24,24 @@ module _ (t : Table) where
       Found (suc (sum-of (norms t) w)) (getD (norms t) j 0)
   job-least j a w h r k = rw (norms-stable t) at (next-least t (norms t) j a w h r k)
 
-  -- a plan whose jobs have norms has a run as long as its norm
-  run-for : (n : ℕ) (p : List ℕ) → all-known (norms t) p ≡ true → n ≡ sum-of (norms t) p →
-      (run : List ℕ) × Runs t p run [] × (length run ≡ n)
+  -- a plan whose jobs have norms has a step that lowers its norm by one, to another such plan
+  step-down : (j : ℕ) (js : List ℕ) → all-known (norms t) (j ∷ js) ≡ true →
+      (a : ℕ) × (q : List ℕ) × Step t (j ∷ js) a q × (all-known (norms t) q ≡ true) × (sum-of (norms t) (j ∷ js) ≡ suc (sum-of (norms t) q))
   unfolding sum-of
-  run-for zero [] k e = ([], empty-run [], refl)
-  run-for zero (j ∷ js) k e = absurd (omega (arith, known-parts (norms t) j js k .0))
-  run-for (suc n) [] k e = absurd (omega arith)
-  run-for (suc n) (j ∷ js) k e =
+  step-down j js k =
       let (a, b) = known-parts (norms t) j js k in
-      let r = job-by-rule j a in
-      let l = known-append (norms t) (r .after) js (r .known) b in
-      let s = run-for n (r .after ++ js) l (omega (arith, r .norm, sum-append (norms t) (r .after) js)) in
-      (r .move ∷ s .0, longer-run (j ∷ js) (r .after ++ js) (r .move) (s .0) [] (r .after, r .rule, refl) (s .1), ap suc (s .2))
+      let r = job-by-rule j a in (
+        r .move,
+        r .after ++ js,
+        (r .after, r .rule, refl),
+        known-append (norms t) (r .after) js (r .known) b,
+        omega (arith, r .norm, sum-append (norms t) (r .after) js),
+      )
 
-  pub norm-run : (p : List ℕ) → all-known (norms t) p ≡ true → (run : List ℕ) × Runs t p run [] × (length run ≡ norm t p)
+  -- so it has a run as long as its norm
+  norm-run : (p : List ℕ) → all-known (norms t) p ≡ true → (run : List ℕ) × Runs t p run [] × (length run ≡ norm t p)
   unfolding norm
-  norm-run p k = run-for (sum-of (norms t) p) p k refl
+  norm-run p k = run-down t (norms t) (λ q. all-known (norms t) q ≡ true) step-down (sum-of (norms t) p) p k refl
 
 module _ (t : Table) (closed : (j a : ℕ) (w : List ℕ) → HasRule t j a w → over t w ≡ true) where
   step-known : (p q : List ℕ) (a : ℕ) → over t p ≡ true → Step t p a q → all-known (norms t) q ≡ true →
@@ -51,17 +53,9 @@ module _ (t : Table) (closed : (j a : ℕ) (w : List ℕ) → HasRule t j a w �
       let (d, f) = job-least t j a w (over-head t j js o) r b in
       (known-cons (norms t) j js d c, omega (arith, sum-append (norms t) w js, ap (sum-of (norms t)) e))
 
-  run-known : {p run end : List ℕ} → Runs t p run end → over t p ≡ true → all-known (norms t) end ≡ true →
-      (all-known (norms t) p ≡ true) × (sum-of (norms t) p ≤ length run + sum-of (norms t) end)
-  run-known (empty-run p) o k = (k, omega arith)
-  run-known (longer-run p q a more end s r) o k =
-      let (b, c) = run-known r (closed-step t closed p q a o s) k in
-      let (d, f) = step-known p q a o s b in
-      (d, omega arith)
-
   run-plan : {p run : List ℕ} → Runs t p run [] → over t p ≡ true → (all-known (norms t) p ≡ true) × (norm t p ≤ length run)
   unfolding norm sum-of all-known
-  run-plan r o = let (k, l) = run-known r o refl in (k, omega arith)
+  run-plan r o = let (k, l) = run-back t (norms t) (λ q. all-known (norms t) q ≡ true) closed step-known r o refl in (k, omega arith)
 
   plan-norm : (p : List ℕ) → over t p ≡ true → all-known (norms t) p ≡ true → Fewest t p (norm t p)
   plan-norm p o k = (norm-run t p k, λ run r. run-plan r o .1)
