@@ -1,21 +1,32 @@
 #!/bin/sh
-# callgrind.sh PROGRAM..: instructions a call, as callgrind counts them: the difference between runs of 100 and 300 calls.
+# callgrind.sh PROGRAM..: instructions a call, as callgrind counts them: the difference between one call on each pair and none.
+# Each program says itself which tables it has, how many pairs, and whose calls; and writes the input of a table.
 set -u
-command -v valgrind >/dev/null 2>&1 || { echo "valgrind is not on this machine"; exit 1; }
+command -v valgrind >/dev/null 2>&1 || { echo "valgrind is not on this machine" >&2; exit 1; }
+input=$(mktemp) || exit 1
+trap 'rm -f "$input"' EXIT
 
+# The instructions of a run of a program on the input.
 instructions() {
-    valgrind --tool=callgrind --callgrind-out-file=/dev/null "$@" 2>&1 | sed -n 's/.*Collected : \([0-9]*\).*/\1/p'
+    valgrind --tool=callgrind --callgrind-out-file=/dev/null "$@" <"$input" 2>&1 | sed -n 's/.*Collected : \([0-9]*\).*/\1/p'
 }
 
-printf '%-14s %-6s %12s %12s\n' program table library plain
 for program do
-    for size in light full; do
-        line=$(printf '%-14s %-6s' "$(basename "$program")" "$size")
-        for side in library plain; do
-            few=$(instructions "$program" "$size" "$side" 100)
-            many=$(instructions "$program" "$size" "$side" 300)
-            line="$line $(printf '%12d' $(((many - few) / 200)))"
+    list=$("$program") || exit 1
+    last=$(printf '%s\n' "$list" | tail -n 1)
+    pairs=${last%% *}
+    sides=${last#* }
+    printf '%-28s' "$(basename "$program")"
+    printf '%12s' $sides
+    printf '\n'
+    printf '%s\n' "$list" | sed '$d' | while read -r table name; do
+        "$program" "$table" >"$input" || exit 1
+        printf '%-28s' "$name"
+        for side in $sides; do
+            none=$(instructions "$program" "$side" 0)
+            once=$(instructions "$program" "$side" 1)
+            printf '%12d' $(((once - none) / pairs))
         done
-        printf '%s\n' "$line"
+        printf '\n'
     done
 done

@@ -1,36 +1,84 @@
 //! The calls to time, and a program of calls and nothing else, for a tool that counts instructions.
-use crate::inputs::{one, Input};
-use outside::rng::Rng;
+use crate::inputs::{alone, Pair, ALONE};
+use std::io::{stdin, stdout, Read, Write};
 use std::process::ExitCode;
 
-/// The call on the pair at an index.
-pub type Call = fn(&Input, usize, &mut [u8]) -> i32;
+/// A call on an image and a pair of plans.
+pub type Call = fn(&[u8], &Pair, &mut [u8]) -> i32;
 
-/// Compare: the library, the plain program by the base method, the plain program by the rows method.
-pub const COMPARE: [Call; 3] = [
-    |input, i, space| gindrazoma::raw::compare(&input.image, &input.pairs[i].0, &input.pairs[i].1, space),
-    |input, i, space| plain::base::compare(&input.image, &input.pairs[i].0, &input.pairs[i].1, space),
-    |input, i, space| plain::rows::compare(&input.image, &input.pairs[i].0, &input.pairs[i].1, space),
+/// A program's name, and its call.
+pub type Program = (&'static str, Call);
+
+/// Compare: the library, and the plain programs.
+pub const COMPARE: [Program; 4] = [
+    ("library", |image, (left, right), space| gindrazoma::raw::compare(image, left, right, space)),
+    ("first", |image, (left, right), space| plain::first::compare(image, left, right, space)),
+    ("base", |image, (left, right), space| plain::base::compare(image, left, right, space)),
+    ("rows", |image, (left, right), space| plain::rows::compare(image, left, right, space)),
 ];
 
-/// The norm of a plan: the library, the plain program.
-pub const NORM: [Call; 2] = [
-    |input, i, _| gindrazoma::raw::plan_norm(&input.image, &input.pairs[i].0),
-    |input, i, _| plain::plan_norm(&input.image, &input.pairs[i].0),
+/// The norm of the left plan: the library, the plain program.
+pub const NORM: [Program; 2] = [
+    ("library", |image, (left, _), _| gindrazoma::raw::plan_norm(image, left)),
+    ("plain", |image, (left, _), _| plain::plan_norm(image, left)),
 ];
 
-/// `PROGRAM light|full library|plain COUNT`: that many calls of one of the two.
-pub fn run(library: Call, plain: Call) -> ExitCode {
-    let words: Vec<String> = std::env::args().collect();
-    let [_, size, side, count] = &words[..] else {
-        eprintln!("usage: {} light|full library|plain COUNT", words[0]);
-        return ExitCode::from(2);
+/// Every kind of pair is among so many.
+const PAIRS: usize = 12;
+
+/// Without words: a line for each table, and one with the number of pairs and the programs. With a table's number: its image and
+/// pairs as planlook reads them. With a program and how often: its call so often on each of the pairs of such an input.
+pub fn run(programs: &[Program]) -> ExitCode {
+    let words: Vec<String> = std::env::args().skip(1).collect();
+    let done = match &words[..] {
+        [] => Some(list(programs)),
+        [table] => write_input(table),
+        [name, times] => make_calls(programs, name, times),
+        _ => None,
     };
-    let input = one(&mut Rng::new(1), if size == "full" { 252 } else { 40 });
-    let call = if side == "library" { library } else { plain };
-    let count: usize = count.parse().expect("a count");
+    if done.is_none() {
+        eprintln!("words: none, or a table's number, or a program's name and how often it makes the calls of the input");
+    }
+    ExitCode::from(if done.is_some() { 0 } else { 2 })
+}
+
+fn list(programs: &[Program]) {
+    ALONE.iter().enumerate().for_each(|(i, (name, ..))| println!("{i} {name}"));
+    println!("{PAIRS} {}", programs.iter().map(|(name, _)| *name).collect::<Vec<_>>().join(" "));
+}
+
+fn write_input(table: &str) -> Option<()> {
+    let input = alone(1, table.parse().ok().filter(|&i| i < ALONE.len())?, PAIRS);
+    let mut bytes = input.image;
+    for plan in input.pairs.iter().flat_map(|(left, right)| [left, right]) {
+        bytes.extend((plan.len() as u16).to_le_bytes());
+        bytes.extend(plan);
+    }
+    stdout().write_all(&bytes).ok()
+}
+
+fn make_calls(programs: &[Program], name: &str, times: &str) -> Option<()> {
+    let (_, call) = programs.iter().find(|program| program.0 == name)?;
+    let times: usize = times.parse().ok()?;
+    let mut bytes = Vec::new();
+    stdin().read_to_end(&mut bytes).ok()?;
+    let (image, mut rest) = bytes.split_at_checked(512 * *bytes.get(508)? as usize)?;
+    let mut pairs = Vec::new();
+    while !rest.is_empty() {
+        pairs.push((next_plan(&mut rest)?, next_plan(&mut rest)?));
+    }
     let mut space = vec![0; plain::WORKSPACE];
-    let sum: i64 = (0..count).map(|i| i64::from(call(&input, i % input.pairs.len(), &mut space))).sum();
-    println!("{size} {side}: {count} calls, answers sum to {sum}");
-    ExitCode::SUCCESS
+    let mut sum = 0;
+    for _ in 0..times {
+        sum += pairs.iter().map(|pair| i64::from(call(image, pair, &mut space))).sum::<i64>();
+    }
+    println!("{name}: {times} times {} calls, answers sum to {sum}", pairs.len());
+    Some(())
+}
+
+fn next_plan(rest: &mut &[u8]) -> Option<Vec<u8>> {
+    let (len, behind) = rest.split_first_chunk()?;
+    let (plan, behind) = behind.split_at_checked(u16::from_le_bytes(*len) as usize)?;
+    *rest = behind;
+    Some(plan.to_vec())
 }

@@ -1,3 +1,5 @@
 //! Tables and plans to time, and the programs that only make calls.
 pub mod calls;
+mod hostile;
 pub mod inputs;
+pub mod pairs;

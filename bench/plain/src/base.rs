@@ -1,6 +1,7 @@
-//! The base of pairs, refined by rounds until one drops nothing, and the prime rows that it gives.
+//! The base of pairs, refined by rounds until one drops nothing, with every choice of speed.
 use crate::index::{Index, NO_RULE};
 use crate::judge::Judge;
+use crate::pairs::Base;
 use crate::region::{split, Rows, ROW};
 use crate::table::{Table, JOBS, RULES};
 
@@ -15,38 +16,12 @@ pub fn prime_form(image: &[u8], plan: &[u8], out: &mut [u8], space: &mut [u8]) -
 /// The prime rows, and an area that is free then.
 fn prime_rows<'a>(table: &Table, norms: &[u16; JOBS], space: &'a mut [u8]) -> (Rows<'a>, &'a mut [u8]) {
     let mut engine = Engine::new(table, norms, space);
-    engine.first_base();
     while engine.round() {}
-    engine.prime_rows();
+    engine.base.prime_rows(&engine.index, &mut engine.forms);
     (engine.forms, engine.failed)
 }
 
 const FAILED: usize = RULES * 32;
-
-impl Index<'_> {
-    /// Writes the candidate of a pair at the end of an area: the plan that y reaches by norm-of-x steps, each lowering
-    /// the norm by one. Its start.
-    fn candidate(&self, y: u8, x: u8, area: &mut [u8]) -> usize {
-        let mut start = area.len() - 1;
-        area[start] = y;
-        let mut left = self.norms[x as usize];
-        while left > 0 {
-            let head = area[start] as usize;
-            start += 1;
-            if self.norms[head] <= left {
-                left -= self.norms[head];
-            } else {
-                let row = self.table.after(self.lowering[head] as usize);
-                start -= row.len();
-                for (to, &j) in area[start..].iter_mut().zip(row) {
-                    *to = j;
-                }
-                left -= 1;
-            }
-        }
-        start
-    }
-}
 
 /// A pair of jobs, with the place at which its candidate starts.
 struct Pair {
@@ -65,8 +40,7 @@ struct Engine<'t, 'a> {
     failed: &'a mut [u8],
     // for each job and each rule of another: the rule of the job that matched it last
     witness: &'a mut [u8],
-    // for each job a bit for the rank of each job that it is paired with
-    held: [u32; JOBS],
+    base: Base,
 }
 
 impl<'t, 'a> Engine<'t, 'a> {
@@ -78,30 +52,10 @@ impl<'t, 'a> Engine<'t, 'a> {
         let witness = &mut space[..JOBS * RULES];
         failed.fill(0);
         witness.fill(NO_RULE);
-        Engine {
-            index: Index::new(table, norms, &[true; RULES]),
-            judge: Judge::new(judge),
-            forms: Rows::new(forms),
-            remainder,
-            failed,
-            witness,
-            held: [0; JOBS],
-        }
-    }
-
-    /// Each job with each job that precedes it and has the same mark.
-    fn first_base(&mut self) {
-        let jobs = self.index.table.jobs;
-        let marks = self.index.marks();
-        for i in 1..jobs {
-            let y = self.index.order[i] as usize;
-            for k in 0..i {
-                let x = self.index.order[k] as usize;
-                if marks[x] == marks[y] {
-                    self.held[y] |= 1 << k;
-                }
-            }
-        }
+        let index = Index::new(table, norms, &[true; RULES]);
+        let marks = index.marks();
+        let base = Base::new(&index, |y, x| marks[x as usize] == marks[y as usize]);
+        Engine { index, judge: Judge::new(judge), forms: Rows::new(forms), remainder, failed, witness, base }
     }
 
     /// Drops each pair that does not fit, at once; whether one was dropped.
@@ -109,12 +63,12 @@ impl<'t, 'a> Engine<'t, 'a> {
         let mut dropped = false;
         for i in 1..self.index.table.jobs {
             let y = self.index.order[i];
-            let mut bits = self.held[y as usize];
+            let mut bits = self.base.ranks(y);
             while bits != 0 {
                 let k = bits.trailing_zeros();
                 bits &= bits - 1;
                 if !self.fits(y, self.index.order[k as usize]) {
-                    self.held[y as usize] &= !(1 << k);
+                    self.base.drop(y, k);
                     dropped = true;
                 }
             }
@@ -181,33 +135,11 @@ impl<'t, 'a> Engine<'t, 'a> {
         for (to, &j) in self.remainder[from..pair.start].iter_mut().zip(row) {
             *to = j;
         }
-        let (index, held) = (&self.index, &self.held);
-        let same = self.judge.judge(table.after(r), &self.remainder[from..], |u, v, area| {
-            let left_greater = index.rank[u as usize] > index.rank[v as usize];
-            let (y, x) = if left_greater { (u, v) } else { (v, u) };
-            let is_held = held[y as usize] >> index.rank[x as usize] & 1 == 1;
-            is_held.then(|| (left_greater, index.candidate(y, x, area)))
-        });
+        let (index, base) = (&self.index, &self.base);
+        let same = self.judge.judge(table.after(r), &self.remainder[from..], |u, v, area| base.pair(index, u, v, area));
         if !same {
             self.failed[at] |= bit;
         }
         same
-    }
-
-    /// Each job as a row of primes: itself, or the first job that it is paired with and the candidate's rows.
-    fn prime_rows(&mut self) {
-        for i in 0..self.index.table.jobs {
-            let y = self.index.order[i];
-            if self.held[y as usize] == 0 {
-                continue;
-            }
-            let x = self.index.order[self.held[y as usize].trailing_zeros() as usize];
-            let mut area = [0; ROW];
-            let start = self.index.candidate(y, x, &mut area);
-            let mut row = [0; ROW];
-            row[0] = x;
-            let len = 1 + self.forms.expand(&area[start..], &mut row[1..]);
-            self.forms.set(y, &row[..len]);
-        }
     }
 }

@@ -1,13 +1,16 @@
-//! The calls of gindrazoma as an ordinary Rust program: the baseline of the benchmark. Compare and prime form are there by
-//! two methods. Answers, refusals and areas are those of include/gindrazoma.h.
+//! The calls of gindrazoma as an ordinary Rust program: the baseline of the benchmark. Compare and prime form are there
+//! three times: by document 01's method as one writes it at first (`first`) and with every choice of speed (`base`), and
+//! by the library's method (`rows`). Answers, refusals and areas are those of include/gindrazoma.h.
 #![no_std]
 #![forbid(unsafe_code)]
 
 pub mod base;
+pub mod first;
 mod image;
 mod index;
 mod judge;
 mod norms;
+mod pairs;
 mod region;
 pub mod rows;
 mod steps;
@@ -16,7 +19,7 @@ mod table;
 pub use steps::{Meter, Steps};
 
 use image::{fill_block, layout_of_list, load};
-use norms::{job_norms, plan_norm_of, plan_refusal, shortest, table_refusal};
+use norms::{job_norms, plan_norms, shortest, table_refusal};
 use region::Rows;
 use table::{Table, JOBS, RULE};
 
@@ -51,16 +54,16 @@ pub fn write_image(jobs: u32, rules: &[u8], out: &mut [u8]) -> i32 {
 pub fn plan_norm(image: &[u8], plan: &[u8]) -> i32 {
     answer(|| {
         let (table, norms) = checked(image)?;
-        plan_refusal(&norms, table.jobs, &[plan])?;
-        Ok(plan_norm_of(&norms, plan) as i32)
+        let [norm] = plan_norms(&norms, table.jobs, [plan])?;
+        Ok(norm as i32)
     })
 }
 
 pub fn shortest_run(image: &[u8], plan: &[u8], out: &mut [u8]) -> i32 {
     answer(|| {
         let (table, norms) = checked(image)?;
-        plan_refusal(&norms, table.jobs, &[plan])?;
-        let out = output(out, plan_norm_of(&norms, plan))?;
+        let [norm] = plan_norms(&norms, table.jobs, [plan])?;
+        let out = output(out, norm)?;
         shortest(&table, &norms, plan, out);
         Ok(out.len() as i32)
     })
@@ -69,7 +72,7 @@ pub fn shortest_run(image: &[u8], plan: &[u8], out: &mut [u8]) -> i32 {
 pub fn nth_move(image: &[u8], plan: &[u8], index: u32, out: &mut [u8]) -> i32 {
     answer(|| {
         let (table, norms) = checked(image)?;
-        plan_refusal(&norms, table.jobs, &[plan])?;
+        plan_norms(&norms, table.jobs, [plan])?;
         let Some((&first, behind)) = plan.split_first() else { return Ok(0) };
         let mut rules = (0..table.count).filter(|&r| table.job(r) == first as usize);
         let Some(r) = rules.nth(index as usize) else { return Ok(0) };
@@ -89,7 +92,7 @@ where
 {
     in_workspace(space, |space| {
         let (table, norms) = checked(image)?;
-        plan_refusal(&norms, table.jobs, &[left, right])?;
+        plan_norms(&norms, table.jobs, [left, right])?;
         let (rows, area) = prime_rows(&table, &norms, space);
         Ok(rows.same(left, right, area) as i32)
     })
@@ -102,7 +105,7 @@ where
 {
     in_workspace(space, |space| {
         let (table, norms) = checked(image)?;
-        plan_refusal(&norms, table.jobs, &[plan])?;
+        plan_norms(&norms, table.jobs, [plan])?;
         let (rows, _) = prime_rows(&table, &norms, space);
         let out = output(out, rows.expanded_len(plan))?;
         Ok(rows.expand(plan, out) as i32)

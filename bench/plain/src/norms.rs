@@ -5,7 +5,7 @@ use crate::Answer;
 /// A job that is not known to finish.
 pub const NONE: u16 = u16::MAX;
 const JOB_MOST: u16 = 512;
-pub const PLAN_MOST: usize = 4096;
+const PLAN_MOST: usize = 4096;
 
 /// The norm of the jobs after a rule, capped above the most that a job may have.
 fn row_norm(norms: &[u16; JOBS], row: &[u8]) -> u16 {
@@ -49,15 +49,16 @@ pub fn table_refusal(norms: &[u16; JOBS], jobs: usize) -> Answer<()> {
     Ok(())
 }
 
-/// Refusals 8 and 9, each over all plans before the next.
-pub fn plan_refusal(norms: &[u16; JOBS], jobs: usize, plans: &[&[u8]]) -> Answer<()> {
+/// The norms of plans, or refusal 8 or 9, each over all plans before the next.
+pub fn plan_norms<const N: usize>(norms: &[u16; JOBS], jobs: usize, plans: [&[u8]; N]) -> Answer<[usize; N]> {
     if plans.iter().any(|p| !all_below(jobs as u8, p)) {
         return Err(8);
     }
-    if plans.iter().any(|p| plan_norm_of(norms, p) > PLAN_MOST) {
+    let sums = plans.map(|p| plan_norm_of(norms, p));
+    if sums.iter().any(|&n| n > PLAN_MOST) {
         return Err(9);
     }
-    Ok(())
+    Ok(sums)
 }
 
 /// Whether all jobs of a plan are below a count. It has no early end, so that many are looked at at once.
@@ -66,7 +67,7 @@ fn all_below(jobs: u8, plan: &[u8]) -> bool {
 }
 
 /// The norm of a plan, or some number above 4,096.
-pub fn plan_norm_of(norms: &[u16; JOBS], plan: &[u8]) -> usize {
+fn plan_norm_of(norms: &[u16; JOBS], plan: &[u8]) -> usize {
     if plan.len() > PLAN_MOST {
         return plan.len(); // each norm is at least 1
     }

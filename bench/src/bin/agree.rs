@@ -1,4 +1,8 @@
-//! The plain programs beside the second comparer: what the benchmark measures against answers rightly.
+//! The plain programs beside the second comparer: what the benchmark measures against answers rightly. The library and they on the
+//! pairs of plans that are timed table by table, which are as they shall be.
+use bench::calls::COMPARE;
+use bench::inputs::{alone, ALONE};
+use bench::pairs::{place_of, NEAR, NORM};
 use outside::harness::{Outcome, Suite};
 use outside::rng::Rng;
 use outside::second::Second;
@@ -9,14 +13,20 @@ use std::process::ExitCode;
 type Compare = fn(&[u8], &[u8], &[u8], &mut [u8]) -> i32;
 type Form = fn(&[u8], &[u8], &mut [u8], &mut [u8]) -> i32;
 
-const METHODS: [(&str, Compare, Form); 2] =
-    [("base", plain::base::compare, plain::base::prime_form), ("rows", plain::rows::compare, plain::rows::prime_form)];
+const METHODS: [(&str, Compare, Form); 3] = [
+    ("first", plain::first::compare, plain::first::prime_form),
+    ("base", plain::base::compare, plain::base::prime_form),
+    ("rows", plain::rows::compare, plain::rows::prime_form),
+];
 
 fn main() -> ExitCode {
     let mut suite = Suite::new();
     for shape in SHAPES {
         let count = if shape == Shape::Full { 30 } else { 200 };
         suite.random(&format!("plain, shape {shape:?}"), count, move |rng| agrees(rng, shape));
+    }
+    for index in 0..ALONE.len() {
+        suite.fixed(&format!("1,000 pairs, {}", ALONE[index].0), move || one_table(index));
     }
     suite.finish()
 }
@@ -40,4 +50,53 @@ fn agrees(rng: &mut Rng, shape: Shape) -> Outcome {
         ensure_eq!(plain::plan_norm(&image, &p), made.norm(&p) as i32, "the norm of {p:?}");
     }
     Ok(())
+}
+
+/// The pairs of a table are as they shall be, and each program answers rightly.
+fn one_table(index: usize) -> Outcome {
+    let input = alone(1, index, 1000);
+    let second = Second::new(&input.table);
+    second.certify()?;
+    ensure_eq!((input.table.jobs, input.pairs.len()), (24, 1000), "jobs and pairs of {}", input.name);
+    ensure!(input.name.starts_with(&format!("{} rules", input.table.rules.len())), "the rules of {}", input.name);
+    ensure!(ALONE[index].1.contains(&second.primes()), "the primes of {}", input.name);
+    let mut space = vec![0; plain::WORKSPACE];
+    for (i, pair) in input.pairs.iter().enumerate() {
+        as_asked(&second, &pair.0, &pair.1, place_of(i)).map_err(|fault| format!("{}, pair {i}: {fault}", input.name))?;
+        for (name, call) in COMPARE {
+            let same = i32::from(place_of(i).is_none());
+            ensure_eq!(call(&input.image, pair, &mut space), same, "{name} on pair {i} over {}", input.name);
+        }
+    }
+    Ok(())
+}
+
+/// Plans of norm 4,096: the same, and no job of one stands where it stands in the other; or first different near a place.
+fn as_asked(second: &Second, p: &[u8], q: &[u8], place: Option<usize>) -> Outcome {
+    for plan in [p, q] {
+        ensure_eq!(second.norm(plan) as usize, NORM, "the norm of {plan:?}");
+    }
+    let Some(place) = place else {
+        ensure!(second.same(p, q), "{p:?} and {q:?} are not the same");
+        let (left, right) = (with_norms(second, p), with_norms(second, q));
+        ensure!(left.iter().all(|job| right.binary_search(job).is_err()), "{p:?} and {q:?} have a job in common");
+        return Ok(());
+    };
+    let (left, right) = (second.form(p), second.form(q));
+    let alike = left.iter().zip(&right).take_while(|(x, y)| x == y).count();
+    ensure!(alike < left.len(), "{p:?} and {q:?} are the same");
+    let norm = second.norm(&left[..alike]) as usize;
+    ensure!((place.saturating_sub(NEAR)..=place + 2 * NEAR).contains(&norm), "{p:?} and {q:?} differ first behind norm {norm}");
+    Ok(())
+}
+
+/// The jobs of a plan, each with the norm of those before it.
+fn with_norms(second: &Second, plan: &[u8]) -> Vec<(u64, u8)> {
+    let mut norm = 0;
+    plan.iter()
+        .map(|&j| {
+            norm += second.norms[j as usize];
+            (norm - second.norms[j as usize], j)
+        })
+        .collect()
 }

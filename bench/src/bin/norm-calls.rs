@@ -2,5 +2,5 @@
 use bench::calls::{run, NORM};
 
 fn main() -> std::process::ExitCode {
-    run(NORM[0], NORM[1])
+    run(&NORM)
 }

@@ -45,6 +45,11 @@ impl<'t> Second<'t> {
         self.history.last().unwrap()
     }
 
+    /// How many primes there are, bisimilar ones counted once.
+    pub fn primes(&self) -> usize {
+        (0..).zip(self.bisimilarity()).filter(|(j, row)| **row == [*j]).count()
+    }
+
     pub fn same(&self, p: &[u8], q: &[u8]) -> bool {
         self.form(p) == self.form(q)
     }

@@ -99,9 +99,12 @@ impl Made {
 
     /// A table by equations of so many jobs and rules.
     pub fn of_size(rng: &mut Rng, jobs: usize, rules: usize) -> Made {
+        Made::of_base(rng, (jobs.div_ceil(6), jobs.div_ceil(3)), (rules / jobs).clamp(1, 3), jobs, rules)
+    }
+
+    /// The same with so many base jobs (from, to), each of at most `each` rules.
+    pub fn of_base(rng: &mut Rng, base: (usize, usize), each: usize, jobs: usize, rules: usize) -> Made {
         loop {
-            let base = (jobs.div_ceil(6), jobs.div_ceil(3));
-            let each = (rules / jobs).clamp(1, 3);
             let made = equations(rng, Sizes { base, jobs: (jobs, jobs), rules: each, fill: rules, word: 40 });
             if let Some(made) = made.filter(|m| m.table.rules.len() == rules) {
                 return made;
@@ -151,6 +154,14 @@ impl Made {
     pub fn rewritten(&self, rng: &mut Rng, plan: &[u8]) -> Plan {
         let word: Plan = plan.iter().flat_map(|&j| self.words[j as usize].clone()).collect();
         cover(rng, &self.words, &word, word.len()).unwrap()
+    }
+
+    /// Other jobs that stand for the same base jobs as a job; None if there are none.
+    pub fn otherwise(&self, rng: &mut Rng, job: u8) -> Option<Plan> {
+        let word = &self.words[job as usize];
+        let mut others = self.words.clone();
+        others[job as usize] = vec![u8::MAX]; // no row has it
+        cover(rng, &others, word, word.len())
     }
 
     /// A plan of the same norm that differs in one place or two; perhaps it is the same all the same.

@@ -1,6 +1,6 @@
 //! Tables and plans by the definitions: moves, images, norms. Written from the documents and not from the library.
 use std::cmp::Reverse;
-use std::collections::BinaryHeap;
+use std::collections::{BTreeSet, BinaryHeap};
 
 pub type Plan = Vec<u8>;
 
@@ -55,6 +55,11 @@ impl Table {
 
     pub fn rules_of(&self, job: u8) -> impl Iterator<Item = &Rule> {
         self.rules.iter().filter(move |r| r.job == job)
+    }
+
+    /// How many rules there are, those that are written twice counted once.
+    pub fn different_rules(&self) -> usize {
+        self.rules.iter().map(Rule::place).collect::<BTreeSet<_>>().len()
     }
 
     /// The moves of a plan: only its first job moves, and the jobs behind it wait.

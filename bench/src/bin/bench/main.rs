@@ -1,92 +1,136 @@
 //! Times of the library beside the plain programs, all from image and plans, all clearing their workspace.
 mod timing;
 
-use bench::calls::{Call, COMPARE, NORM};
-use bench::inputs::{growth, hostile, light_and_full, Input};
+use bench::calls::{Program, COMPARE, NORM};
+use bench::inputs::{alone, growth, hostile, light_and_full, Input, Pair, ALONE};
 use outside::rng::Rng;
+use outside::second::Second;
 use plain::Steps;
 use std::process::ExitCode;
 use timing::{average, slowest};
 
+/// How long the library may take over one table and 1,000 pairs, in times of the fastest plain program.
+const BOUND: f64 = 3.0;
+
 fn main() -> ExitCode {
-    let seed = std::env::var("SEED").ok().and_then(|s| s.parse().ok()).unwrap_or(1);
-    report(&mut Rng::new(seed))
+    let Ok(seed) = std::env::var("SEED").unwrap_or("1".to_string()).parse() else {
+        eprintln!("SEED is a number");
+        return ExitCode::from(2);
+    };
+    let mut bench = Bench { rng: Rng::new(seed), space: vec![0; plain::WORKSPACE], differ: 0 };
+    let most = bench.one_table(seed);
+    bench.many_tables();
+    bench.hostile_tables();
+    bench.growth();
+    let (differ, holds) = (bench.differ, if most <= BOUND { "holds" } else { "does not hold" });
+    print!("\n1,000 comparisons over one table take at most {most:.2} times as long as in the fastest plain program: ");
+    println!("the bound of {BOUND} {holds}; answers that differ: {differ}");
+    ExitCode::from(u8::from(most > BOUND || differ > 0))
 }
 
 type Form = fn(&[u8], &[u8], &mut [u8], &mut [u8]) -> i32;
 
-const FORM: [Form; 3] = [gindrazoma::raw::prime_form, plain::base::prime_form, plain::rows::prime_form];
+const FORM: [Form; 4] = [gindrazoma::raw::prime_form, plain::first::prime_form, plain::base::prime_form, plain::rows::prime_form];
 
-/// The pairs on which two programs answer differently.
-fn disagreements(inputs: &[Input], space: &mut [u8]) -> usize {
-    let mut agree = |input: &Input, i: usize| {
-        let answers = COMPARE.map(|call| call(input, i, space));
-        let norms = NORM.map(|call| call(input, i, space));
-        let forms = FORM.map(|call| {
-            let mut out = [0; 4096];
-            (call(&input.image, &input.pairs[i].0, &mut out, space), out)
-        });
-        answers == [answers[0]; 3] && norms == [norms[0]; 2] && forms == [forms[0]; 3]
-    };
-    inputs.iter().map(|input| (0..input.pairs.len()).filter(|&i| !agree(input, i)).count()).sum()
+struct Bench {
+    rng: Rng,
+    space: Vec<u8>,
+    // the pairs on which two programs answer differently
+    differ: usize,
 }
 
-fn steps_of(input: &Input, space: &mut [u8]) -> Steps {
-    let mut steps = Steps::default();
-    let (p, q) = &input.pairs[0];
-    plain::rows::compare_counted(&input.image, p, q, space, &mut steps);
-    steps
+impl Bench {
+    /// All programs on all pairs: compare, and norm and prime form of the left plan.
+    fn compare_answers(&mut self, inputs: &[Input]) {
+        let space = &mut self.space;
+        let mut agree = |image: &[u8], pair: &Pair| {
+            let answers = COMPARE.map(|(_, call)| call(image, pair, space));
+            let norms = NORM.map(|(_, call)| call(image, pair, space));
+            let forms = FORM.map(|call| {
+                let mut out = [0; 4096];
+                (call(image, &pair.0, &mut out, space), out)
+            });
+            answers == [answers[0]; 4] && norms == [norms[0]; 2] && forms == [forms[0]; 4]
+        };
+        for input in inputs {
+            self.differ += input.pairs.iter().filter(|pair| !agree(&input.image, pair)).count();
+        }
+    }
+
+    /// The library's worst ratio to the fastest plain program.
+    fn one_table(&mut self, seed: u64) -> f64 {
+        println!("compare, one table of 24 jobs and 1,000 pairs of plans of norm 4,096, half of them same though written with");
+        println!("other jobs, half apart: how many rules are different, how many primes, milliseconds, the library's ratios");
+        println!("{:<28}{:>6}{:>8}{}", "table", "rules", "primes", head(&COMPARE));
+        let mut most: f64 = 0.0;
+        for i in 0..ALONE.len() {
+            let input = alone(seed, i, 1000);
+            self.compare_answers(std::slice::from_ref(&input));
+            let times = average(7, &COMPARE, std::slice::from_ref(&input));
+            let (rules, primes) = (input.table.different_rules(), Second::new(&input.table).primes());
+            println!("{:<28}{rules:>6}{primes:>8}{}", input.name, row(times));
+            most = most.max(times[0] / times[1..].iter().copied().fold(f64::MAX, f64::min));
+        }
+        most
+    }
+
+    fn many_tables(&mut self) {
+        let groups = light_and_full(&mut self.rng);
+        println!("\ncompare, 20 tables of 24 jobs and 50 such pairs each: microseconds a call");
+        println!("{:<40}{}", "tables", head(&COMPARE));
+        for (name, inputs) in &groups {
+            self.compare_answers(inputs);
+            println!("{name:<40}{}", row(average(7, &COMPARE, inputs)));
+        }
+        println!("\nplan norm, the same tables: microseconds a call");
+        println!("{:<40}{}", "tables", head(&NORM));
+        for (name, inputs) in &groups {
+            println!("{name:<40}{}", row(average(50, &NORM, inputs)));
+        }
+    }
+
+    fn hostile_tables(&mut self) {
+        println!("\ncompare, tables made to be slow: microseconds of the slowest pair, and the steps of the rows program");
+        println!("{:<40}{}{:>7}{:>7}{:>7}{:>10}", "table", head(&COMPARE), "rounds", "jobs", "rows", "places");
+        for input in hostile(&mut self.rng) {
+            self.compare_answers(std::slice::from_ref(&input));
+            let s = self.steps_of(&input);
+            let times = row(slowest(&COMPARE, &input));
+            println!("{:<40}{times}{:>7}{:>7}{:>7}{:>10}", input.name, s.rounds, s.jobs, s.rows, s.places);
+        }
+    }
+
+    fn steps_of(&mut self, input: &Input) -> Steps {
+        let mut steps = Steps::default();
+        let (p, q) = &input.pairs[0];
+        plain::rows::compare_counted(&input.image, p, q, &mut self.space, &mut steps);
+        steps
+    }
+
+    fn growth(&mut self) {
+        println!("\ncompare by jobs and rules: microseconds a call of the library, and its ratios to base and rows");
+        println!("{:<6}{:>23}{:>23}{:>23}{:>23}", "jobs", "24 rules", "63 rules", "126 rules", "252 rules");
+        for jobs in [3, 6, 12, 24] {
+            let mut line = format!("{jobs:<6}");
+            for rules in [24, 63, 126, 252] {
+                let inputs = growth(&mut self.rng, jobs, rules);
+                self.compare_answers(&inputs);
+                let [library, _, base, rows] = average(7, &COMPARE, &inputs);
+                line += &format!(" {library:>10.1}{:>6.2}{:>6.2}", library / base, library / rows);
+            }
+            println!("{line}");
+        }
+    }
+}
+
+fn head(programs: &[Program]) -> String {
+    let names = programs.iter().map(|(name, _)| format!("{name:>10}"));
+    names.chain(programs[1..].iter().map(|(name, _)| format!("{:>8}", format!("/{name}")))).collect()
 }
 
 /// The times of the library and of each plain program, and the library's ratio to each.
 fn row<const N: usize>(times: [f64; N]) -> String {
     let columns = times.iter().map(|t| format!(" {t:>9.2}"));
-    let ratios = times[1..].iter().map(|t| format!(" {:>6.2}", times[0] / t));
+    let ratios = times[1..].iter().map(|t| format!(" {:>7.2}", times[0] / t));
     columns.chain(ratios).collect()
-}
-
-fn averages<const N: usize>(times: usize, calls: &[Call; N], groups: &[(&str, Vec<Input>)]) {
-    for (name, inputs) in groups {
-        println!("{name:<40}{}", row(average(times, calls, inputs)));
-    }
-}
-
-fn report(rng: &mut Rng) -> ExitCode {
-    let mut space = vec![0; plain::WORKSPACE];
-    let groups = light_and_full(rng);
-    let mut differ: usize = groups.iter().map(|(_, inputs)| disagreements(inputs, &mut space)).sum();
-    let head = format!("{:>10}{:>10}{:>10}{:>7}{:>7}", "library", "base", "rows", "/base", "/rows");
-
-    println!("compare, plans of norm 4,096, half of the pairs same, half apart: microseconds a call, and the library's ratios");
-    println!("{:<40}{head}", "table");
-    averages(7, &COMPARE, &groups);
-
-    println!("\nplan norm: microseconds a call");
-    println!("{:<40}{:>10}{:>10}{:>7}", "table", "library", "plain", "ratio");
-    averages(50, &NORM, &groups);
-
-    println!("\ncompare on hostile tables: microseconds of the slowest pair, and the steps of the rows method's plain program");
-    println!("{:<40}{head}{:>7}{:>7}{:>7}{:>10}", "table", "rounds", "jobs", "rows", "places");
-    for input in hostile(rng) {
-        differ += disagreements(std::slice::from_ref(&input), &mut space);
-        let s = steps_of(&input, &mut space);
-        let times = row(slowest(&COMPARE, &input));
-        println!("{:<40}{times}{:>7}{:>7}{:>7}{:>10}", input.name, s.rounds, s.jobs, s.rows, s.places);
-    }
-
-    println!("\ncompare by jobs and rules: microseconds a call of the library, and the ratios to base and rows");
-    println!("{:<6}{:>23}{:>23}{:>23}{:>23}", "jobs", "24 rules", "63 rules", "126 rules", "252 rules");
-    for jobs in [3, 6, 12, 24] {
-        let mut line = format!("{jobs:<6}");
-        for rules in [24, 63, 126, 252] {
-            let inputs = growth(rng, jobs, rules);
-            differ += disagreements(&inputs, &mut space);
-            let [library, base, rows] = average(7, &COMPARE, &inputs);
-            line += &format!(" {library:>10.1}{:>6.2}{:>6.2}", library / base, library / rows);
-        }
-        println!("{line}");
-    }
-
-    println!("\nanswers that differ: {differ}");
-    ExitCode::from(u8::from(differ > 0))
 }
