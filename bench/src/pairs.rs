@@ -24,7 +24,7 @@ type Part = (Plan, Plan);
 /// What pairs over a table are made of.
 pub struct Pairs<'m> {
     made: &'m Made,
-    pub second: Second<'m>,
+    second: Second<'m>,
     // the jobs that can be written otherwise
     jobs: Vec<u8>,
     // whether such jobs can make up a norm
@@ -95,8 +95,8 @@ impl<'m> Pairs<'m> {
         near.into_iter().find_map(|(_, i)| {
             let part = &mut parts[i].1;
             let norm = self.made.norm(part);
-            let others = (0..20).map(|_| self.made.plan_of_norm(rng, norm));
-            *part = { others }.find(|others| !self.second.same(part, others))?;
+            let mut others = (0..20).map(|_| self.made.plan_of_norm(rng, norm));
+            *part = others.find(|others| !self.second.same(part, others))?;
             Some(())
         })
     }
