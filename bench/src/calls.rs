@@ -1,5 +1,6 @@
 //! The calls to time, and a program of calls and nothing else, for a tool that counts instructions.
-use crate::inputs::{alone, Pair, ALONE};
+use crate::inputs::{single_table, Pair, SINGLE_TABLES};
+use outside::table::put_plan;
 use std::io::{stdin, stdout, Read, Write};
 use std::process::ExitCode;
 
@@ -31,7 +32,7 @@ const PAIRS: usize = 12;
 pub fn run(programs: &[Program]) -> ExitCode {
     let words: Vec<String> = std::env::args().skip(1).collect();
     let done = match &words[..] {
-        [] => Some(list(programs)),
+        [] => list(programs),
         [table] => write_input(table),
         [name, times] => make_calls(programs, name, times),
         _ => None,
@@ -42,17 +43,17 @@ pub fn run(programs: &[Program]) -> ExitCode {
     ExitCode::from(if done.is_some() { 0 } else { 2 })
 }
 
-fn list(programs: &[Program]) {
-    ALONE.iter().enumerate().for_each(|(i, (name, ..))| println!("{i} {name}"));
+fn list(programs: &[Program]) -> Option<()> {
+    SINGLE_TABLES.iter().enumerate().for_each(|(i, (name, ..))| println!("{i} {name}"));
     println!("{PAIRS} {}", programs.iter().map(|(name, _)| *name).collect::<Vec<_>>().join(" "));
+    Some(())
 }
 
 fn write_input(table: &str) -> Option<()> {
-    let input = alone(1, table.parse().ok().filter(|&i| i < ALONE.len())?, PAIRS);
+    let input = single_table(1, table.parse().ok().filter(|&i| i < SINGLE_TABLES.len())?, PAIRS);
     let mut bytes = input.image;
     for plan in input.pairs.iter().flat_map(|(left, right)| [left, right]) {
-        bytes.extend((plan.len() as u16).to_le_bytes());
-        bytes.extend(plan);
+        put_plan(&mut bytes, plan);
     }
     stdout().write_all(&bytes).ok()
 }

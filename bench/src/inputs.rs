@@ -1,6 +1,6 @@
 //! Tables and pairs of plans to time.
 use crate::hostile;
-use crate::pairs::{Pairs, NORM};
+use crate::pairs::{Pairs, PLAN_NORM};
 use outside::rng::Rng;
 use outside::second::Second;
 use outside::shapes::Made;
@@ -24,7 +24,7 @@ fn input(name: &str, made: &Made, pairs: Vec<Pair>) -> Input {
 fn some_pairs(rng: &mut Rng, made: &Made, count: usize) -> Vec<Pair> {
     (0..count)
         .map(|i| {
-            let p = made.plan_of_norm(rng, NORM as u64);
+            let p = made.plan_of_norm(rng, PLAN_NORM as u64);
             let q = made.rewritten(rng, &p);
             let q = if i % 2 == 0 { q } else { made.perturbed(rng, &q) };
             (p, q)
@@ -33,9 +33,9 @@ fn some_pairs(rng: &mut Rng, made: &Made, count: usize) -> Vec<Pair> {
 }
 
 /// A table of 24 jobs that is timed alone: how many primes it has, bisimilar ones counted once, and how it is made.
-pub type Alone = (&'static str, RangeInclusive<usize>, fn(&mut Rng) -> Made);
+pub type SingleTable = (&'static str, RangeInclusive<usize>, fn(&mut Rng) -> Made);
 
-pub const ALONE: [Alone; 7] = [
+pub const SINGLE_TABLES: [SingleTable; 7] = [
     ("40 rules", 5..=12, |rng| Made::of_base(rng, (4, 12), 2, 24, 40)),
     ("252 rules", 5..=12, |rng| Made::of_base(rng, (4, 12), 16, 24, 252)),
     ("40 rules, much bisimilar", 2..=4, |rng| Made::of_base(rng, (2, 4), 2, 24, 40)),
@@ -47,8 +47,8 @@ pub const ALONE: [Alone; 7] = [
 
 /// One of those tables, and so many pairs; from random numbers of its own, so that it can be made alone. Few of its rules are
 /// written twice.
-pub fn alone(seed: u64, index: usize, count: usize) -> Input {
-    let (name, primes, make) = &ALONE[index];
+pub fn single_table(seed: u64, index: usize, count: usize) -> Input {
+    let (name, primes, make) = &SINGLE_TABLES[index];
     let rng = &mut Rng::of_iteration(seed, name, 0);
     loop {
         let made = make(rng);

@@ -5,10 +5,10 @@ use outside::second::Second;
 use outside::shapes::Made;
 use outside::table::Plan;
 
-pub const NORM: usize = 4096;
+pub const PLAN_NORM: usize = 4096;
 
 /// Near which norm from the beginning two plans differ: near the front, in the middle, at the end.
-pub const PLACES: [usize; 3] = [0, NORM / 2, NORM];
+pub const PLACES: [usize; 3] = [0, PLAN_NORM / 2, PLAN_NORM];
 
 /// So near to its place begins the part of the plans that differs.
 pub const NEAR: usize = 512;
@@ -36,11 +36,11 @@ impl<'m> Pairs<'m> {
     pub fn new(rng: &mut Rng, made: &'m Made) -> Option<Pairs<'m>> {
         let jobs: Vec<u8> = (0..made.table.jobs as u8).filter(|&j| made.otherwise(rng, j).is_some()).collect();
         let mut filled = vec![true];
-        for n in 1..=NORM {
+        for n in 1..=PLAN_NORM {
             let fills = |&j: &u8| n.checked_sub(made.norms[j as usize] as usize).is_some_and(|m| filled[m]);
             filled.push(jobs.iter().any(fills));
         }
-        let pairs = filled[NORM].then(|| Pairs { made, second: Second::new(&made.table), jobs, filled })?;
+        let pairs = filled[PLAN_NORM].then(|| Pairs { made, second: Second::new(&made.table), jobs, filled })?;
         PLACES.iter().all(|&place| pairs.pair(rng, Some(place)).is_some()).then_some(pairs)
     }
 
@@ -68,7 +68,7 @@ impl<'m> Pairs<'m> {
     /// Jobs at random, each beside others that are written for it, on either side.
     fn parts(&self, rng: &mut Rng) -> Vec<Part> {
         let mut parts = Vec::new();
-        let mut left = NORM;
+        let mut left = PLAN_NORM;
         while left > 0 {
             let fits = |&&j: &&u8| left.checked_sub(self.norm(&[j])).is_some_and(|m| self.filled[m]);
             let fit: Vec<&u8> = self.jobs.iter().filter(fits).collect();

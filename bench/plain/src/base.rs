@@ -1,7 +1,7 @@
 //! The base of pairs, refined by rounds until one drops nothing, with every choice of speed.
+use crate::held_pairs::Base;
 use crate::index::{Index, NO_RULE};
 use crate::judge::Judge;
-use crate::pairs::Base;
 use crate::region::{split, Rows, ROW};
 use crate::table::{Table, JOBS, RULES};
 

@@ -1,9 +1,9 @@
 //! The base of pairs as document 01 has it, at first: every pair in the first base, a round that looks at each pair anew and
 //! judges by the base as it was when the round began, nothing kept but the base.
+use crate::held_pairs::Base;
 use crate::index::Index;
 use crate::judge::Judge;
 use crate::norms::plan_norms;
-use crate::pairs::Base;
 use crate::region::{split, Rows, ROW};
 use crate::table::{Table, JOBS, RULES};
 

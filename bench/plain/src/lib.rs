@@ -6,11 +6,11 @@
 
 pub mod base;
 pub mod first;
+mod held_pairs;
 mod image;
 mod index;
 mod judge;
 mod norms;
-mod pairs;
 mod region;
 pub mod rows;
 mod steps;

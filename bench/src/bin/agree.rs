@@ -1,8 +1,8 @@
 //! The plain programs beside the second comparer: what the benchmark measures against answers rightly. The library and they on the
 //! pairs of plans that are timed table by table, which are as they shall be.
 use bench::calls::COMPARE;
-use bench::inputs::{alone, ALONE};
-use bench::pairs::{place_of, NEAR, NORM};
+use bench::inputs::{single_table, SINGLE_TABLES};
+use bench::pairs::{place_of, NEAR, PLAN_NORM};
 use outside::harness::{Outcome, Suite};
 use outside::rng::Rng;
 use outside::second::Second;
@@ -25,8 +25,8 @@ fn main() -> ExitCode {
         let count = if shape == Shape::Full { 30 } else { 200 };
         suite.random(&format!("plain, shape {shape:?}"), count, move |rng| agrees(rng, shape));
     }
-    for index in 0..ALONE.len() {
-        suite.fixed(&format!("1,000 pairs, {}", ALONE[index].0), move || one_table(index));
+    for (index, (name, ..)) in SINGLE_TABLES.iter().enumerate() {
+        suite.fixed(&format!("1,000 pairs, {name}"), move || one_table(index));
     }
     suite.finish()
 }
@@ -54,12 +54,12 @@ fn agrees(rng: &mut Rng, shape: Shape) -> Outcome {
 
 /// The pairs of a table are as they shall be, and each program answers rightly.
 fn one_table(index: usize) -> Outcome {
-    let input = alone(1, index, 1000);
+    let input = single_table(1, index, 1000);
     let second = Second::new(&input.table);
     second.certify()?;
     ensure_eq!((input.table.jobs, input.pairs.len()), (24, 1000), "jobs and pairs of {}", input.name);
     ensure!(input.name.starts_with(&format!("{} rules", input.table.rules.len())), "the rules of {}", input.name);
-    ensure!(ALONE[index].1.contains(&second.primes()), "the primes of {}", input.name);
+    ensure!(SINGLE_TABLES[index].1.contains(&second.primes()), "the primes of {}", input.name);
     let mut space = vec![0; plain::WORKSPACE];
     for (i, pair) in input.pairs.iter().enumerate() {
         as_asked(&second, &pair.0, &pair.1, place_of(i)).map_err(|fault| format!("{}, pair {i}: {fault}", input.name))?;
@@ -74,7 +74,7 @@ fn one_table(index: usize) -> Outcome {
 /// Plans of norm 4,096: the same, and no job of one stands where it stands in the other; or first different near a place.
 fn as_asked(second: &Second, p: &[u8], q: &[u8], place: Option<usize>) -> Outcome {
     for plan in [p, q] {
-        ensure_eq!(second.norm(plan) as usize, NORM, "the norm of {plan:?}");
+        ensure_eq!(second.norm(plan) as usize, PLAN_NORM, "the norm of {plan:?}");
     }
     let Some(place) = place else {
         ensure!(second.same(p, q), "{p:?} and {q:?} are not the same");

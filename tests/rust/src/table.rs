@@ -129,3 +129,9 @@ pub fn image_of(jobs: u8, places: &[u8]) -> Vec<u8> {
     }
     image
 }
+
+/// A plan as planlook reads it: two bytes of length, and the jobs.
+pub fn put_plan(input: &mut Vec<u8>, plan: &[u8]) {
+    input.extend((plan.len() as u16).to_le_bytes());
+    input.extend(plan);
+}

@@ -2,7 +2,7 @@
 mod timing;
 
 use bench::calls::{Program, COMPARE, NORM};
-use bench::inputs::{alone, growth, hostile, light_and_full, Input, Pair, ALONE};
+use bench::inputs::{growth, hostile, light_and_full, single_table, Input, Pair, SINGLE_TABLES};
 use outside::rng::Rng;
 use outside::second::Second;
 use plain::Steps;
@@ -63,8 +63,8 @@ impl Bench {
         println!("other jobs, half apart: how many rules are different, how many primes, milliseconds, the library's ratios");
         println!("{:<28}{:>6}{:>8}{}", "table", "rules", "primes", head(&COMPARE));
         let mut most: f64 = 0.0;
-        for i in 0..ALONE.len() {
-            let input = alone(seed, i, 1000);
+        for i in 0..SINGLE_TABLES.len() {
+            let input = single_table(seed, i, 1000);
             self.compare_answers(std::slice::from_ref(&input));
             let times = average(7, &COMPARE, std::slice::from_ref(&input));
             let (rules, primes) = (input.table.different_rules(), Second::new(&input.table).primes());

@@ -5,7 +5,7 @@ use outside::refusals::{of_image, of_plans, table_of_image};
 use outside::rng::Rng;
 use outside::second::Second;
 use outside::shapes::{Made, Shape};
-use outside::table::Plan;
+use outside::table::{put_plan, Plan};
 use outside::{ensure, ensure_eq};
 use std::fmt::Write as _;
 use std::io::Write as _;
@@ -111,11 +111,6 @@ fn samples() -> Outcome {
 fn some_table(rng: &mut Rng) -> Made {
     let shape = *rng.pick(&[Shape::Tiny, Shape::Regular, Shape::Equations, Shape::Light, Shape::Long, Shape::Near, Shape::Wide]);
     Made::new(shape, rng)
-}
-
-fn put_plan(input: &mut Vec<u8>, plan: &[u8]) {
-    input.extend((plan.len() as u16).to_le_bytes());
-    input.extend(plan);
 }
 
 fn with_pairs(rng: &mut Rng) -> Vec<u8> {
