@@ -25,8 +25,9 @@ for program do
         for side in $sides; do
             none=$(instructions "$program" "$side" 0)
             once=$(instructions "$program" "$side" 1)
+            [ -n "$none" ] && [ -n "$once" ] || { echo "valgrind counted nothing" >&2; exit 1; }
             printf '%12d' $(((once - none) / pairs))
         done
         printf '\n'
-    done
+    done || exit 1
 done
