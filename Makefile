@@ -3,13 +3,14 @@
 # make test       every proof, then the tests over the archive; the last line is 'N passed, M failed'
 # make bench      times beside ordinary Rust programs; make callgrind: instructions a call
 # make soak       random tests for SECONDS= from a printed seed, or from SEED=
+# make ages       answers of an archive from before version 2.0.0, OLD=, beside this one's on images of before
 # make install    into PREFIX=, below DESTDIR=
 # make clean
 
 PREFIX ?= /usr/local
 DESTDIR ?=
 SECONDS ?= 300
-VERSION = 1.0.0
+VERSION = 2.0.0
 
 ARCHIVE ?= target/staticlib/libgindrazoma.a
 PLANLOOK ?= target/bin/planlook
@@ -38,7 +39,7 @@ CHECKS_whole    = symbols names c-load memory-c-load plain example
 CHECKS_planlook = samples rust-look install
 library-checks  = c-$(1) pages-c-$(1) memory-c-$(1) rust-$(1) memory-rust-$(1) wrapper-$(1)
 
-.PHONY: all look test bench callgrind soak install clean
+.PHONY: all look test bench callgrind soak ages old-archive install clean
 .DELETE_ON_ERROR:
 
 all: $(ARCHIVE) $(PLANLOOK)
@@ -117,6 +118,12 @@ soak: $(ARCHIVE)
 	@status=0; for program in images norms sameness; do \
 		env SECONDS=$$(($(SECONDS) / 3)) $(RUST)/$$program || status=1; \
 	done; exit $$status
+
+ages: old-archive $(ARCHIVE)
+	@tests/ages.sh $(OLD) $(ARCHIVE)
+
+old-archive:
+	@test -f "$(OLD)" || { echo "make ages OLD=FILE: FILE is a libgindrazoma.a from before version 2.0.0; there is no '$(OLD)'" >&2; exit 1; }
 
 # ---- examples, and planlook on them
 

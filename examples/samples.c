@@ -28,7 +28,7 @@ static void begin(int job_count)
 
 static void rule(int job, int move, int after, int a, int b, int c, int d)
 {
-    const int place[8] = { job, move, after, a, b, c, d, 0 };
+    const int place[8] = { job, move % 256, after, a, b, c, d, move / 256 };
     uint8_t *block = input + 512 * (rules / 63);
     for (int i = 0; i < 8; i++)
         block[2 + 8 * (rules % 63) + i] = (uint8_t)place[i];
@@ -144,6 +144,25 @@ static void tables(void)
     save("twelve-pairs");
 }
 
+/* A and B have equal low bytes, since 1,000 is 232 + 256 * 3, and B is the same as C. */
+static void larger_moves(void)
+{
+    begin(6);
+    rule(0, 232, 0, 0, 0, 0, 0);
+    rule(1, 1000, 0, 0, 0, 0, 0);
+    rule(2, 1000, 0, 0, 0, 0, 0);
+    rule(3, 1000, 1, 1, 0, 0, 0);
+    rule(4, 65535, 0, 0, 0, 0, 0);
+    rule(5, 255, 1, 4, 0, 0, 0);
+    end();
+    pair("A", "B");
+    pair("B", "C");
+    pair("D", "BC");
+    pair("D", "AB");
+    pair("F", "EE");
+    save("larger-moves");
+}
+
 static void large_tables(void)
 {
     begin(10); /* norms 1, 3, 7 and so on to 511, and 512; all made of job A */
@@ -221,9 +240,13 @@ static void refused(void)
     seal(0);
     save("refused-4");
     table_t();
-    input[2 + 7] = 1;
+    input[2 + 6] = 1; /* names no job, and is not zero */
     seal(0);
     save("refused-5");
+    table_t();
+    input[2 + 8 * 4 + 7] = 1; /* the first unused place */
+    seal(0);
+    save("refused-5-unused");
     begin(1);
     rule(0, 'a', 1, 0, 0, 0, 0);
     end();
@@ -279,6 +302,7 @@ int main(int argc, char **argv)
     }
     folder = argv[1];
     tables();
+    larger_moves();
     large_tables();
     longest_plans();
     refused();

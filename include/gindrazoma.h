@@ -1,10 +1,11 @@
 /*
  * gindrazoma: tables of rules, plans over them, sameness and prime forms.
  *
- * A job is a number below the table's job count. A move is a number 0 to 255. A rule says that a job
- * may make a move and then becomes 0 to 4 jobs. A plan is a row of jobs, one byte a job; its first job
+ * A job is a number below the table's job count. A move is a number 0 to 65,535. A rule says that a
+ * job may make a move and then becomes 0 to 4 jobs. A plan is a row of jobs, one byte a job; its first job
  * moves and the others wait. The norm of a plan is the fewest moves that lead to the empty plan.
- * Two plans are the same if they are bisimilar. docs/FORMAT.md describes the image of a table.
+ * Two plans are the same if they are bisimilar. docs/FORMAT.md describes the image of a table; images written
+ * before version 2.0.0, in which moves were 0 to 255, mean what they meant.
  *
  * EVERY CALL
  *  - gives back one signed number: a refusal is its number (enum gindrazoma_refusal) made negative;
@@ -34,10 +35,10 @@
 #include <stdint.h>
 
 /* The version of this header, and of the archive that it belongs to. */
-#define GINDRAZOMA_VERSION_MAJOR 1
+#define GINDRAZOMA_VERSION_MAJOR 2
 #define GINDRAZOMA_VERSION_MINOR 0
 #define GINDRAZOMA_VERSION_PATCH 0
-#define GINDRAZOMA_VERSION "1.0.0"
+#define GINDRAZOMA_VERSION "2.0.0"
 
 #ifdef __cplusplus
 extern "C" {
@@ -68,12 +69,12 @@ enum {
     GINDRAZOMA_WORKSPACE = 65536,    /* bytes that a workspace needs */
 
     /* Lengths in bytes. Those of output are enough for every accepted input. */
-    GINDRAZOMA_RULE_BYTES = 8,       /* a rule: job, move, number of jobs after, four bytes for them, a zero byte */
+    GINDRAZOMA_RULE_BYTES = 8,       /* a rule: job, the move's low byte, number of jobs after, four bytes for them, the move's high byte */
     GINDRAZOMA_BLOCK_BYTES = 512,    /* a block of an image, with places for 63 rules */
     GINDRAZOMA_RULE_LIST_MAX = 2016, /* a rule list: what the writer takes */
     GINDRAZOMA_READ_MAX = 2017,      /* what the reader writes */
-    GINDRAZOMA_RUN_MAX = 4096,       /* what the shortest run writes */
-    GINDRAZOMA_MOVE_MAX = 4100,      /* what the n-th move writes */
+    GINDRAZOMA_RUN_MAX = 8192,       /* what the shortest run writes */
+    GINDRAZOMA_MOVE_MAX = 4101,      /* what the n-th move writes */
     GINDRAZOMA_FORM_MAX = 4096       /* what the prime form writes */
 };
 
@@ -103,10 +104,10 @@ int32_t gindrazoma_write_image(uint32_t jobs, const uint8_t *rules, size_t rules
 int32_t gindrazoma_plan_norm(const uint8_t *image, size_t image_len, const uint8_t *plan, size_t plan_len);
 
 /*
- * A shortest run of a plan: writes moves, one byte each, that lead from the plan to the empty plan and
- * are as many as its norm. Which of the shortest runs is not promised.
+ * A shortest run of a plan: writes moves, two bytes each with the low byte first, that lead from the plan
+ * to the empty plan and are as many as its norm. Which of the shortest runs is not promised.
  *
- * Answer: the bytes written, which is the norm, 0 to 4,096.
+ * Answer: the bytes written, which is twice the norm, 0 to 8,192.
  * Refusals: 2, 3, 4, 5, 6, 7, 8, 9, 10.
  */
 int32_t gindrazoma_shortest_run(const uint8_t *image, size_t image_len, const uint8_t *plan, size_t plan_len,
@@ -114,9 +115,9 @@ int32_t gindrazoma_shortest_run(const uint8_t *image, size_t image_len, const ui
 
 /*
  * The move of a plan at an index from 0, one for each rule of its first job in image order: writes the
- * move in one byte and then the remaining plan.
+ * move in two bytes, the low byte first, and then the remaining plan.
  *
- * Answer: the bytes written, 1 or more; or 0, with nothing written, for "no such move": exactly if the
+ * Answer: the bytes written, 2 or more; or 0, with nothing written, for "no such move": exactly if the
  * plan is empty or the index is not below the number of its first job's rules. With 0 the output area
  * may be of any length.
  * Refusals: 2, 3, 4, 5, 6, 7, 8, 9, 10.

@@ -32,7 +32,7 @@ fn chain(fill: usize) -> Table {
     let mut rules: Vec<Rule> = (0..24).map(|k| rule(k, 97, &[])).collect();
     let spare = fill.saturating_sub(47) / 24;
     for i in 0..spare {
-        rules.extend((0..24).map(|k| rule(k, 99 + (i / 2) as u8, &[0, 0, 0, 0][..i % 5])));
+        rules.extend((0..24).map(|k| rule(k, 99 + (i / 2) as u16, &[0, 0, 0, 0][..i % 5])));
     }
     rules.extend((1..24).map(|k| rule(k, 98, &[k - 1])));
     Table { jobs: 24, rules }

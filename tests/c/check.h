@@ -58,6 +58,7 @@ void add_rule(struct table *t, int job, int move, int after, int a, int b, int c
 void rule0(struct table *t, int job, int move);
 void rule1(struct table *t, int job, int move, int a);
 void rule2(struct table *t, int job, int move, int a, int b);
+int move_of(const uint8_t *rule);
 size_t rule_bytes(const struct table *t);
 size_t image_of(const struct table *t, uint8_t *image); /* into 2,560 bytes or more; its length */
 void seal(uint8_t *block);                              /* sets the checksum */
@@ -66,7 +67,10 @@ struct table table_t(void);          /* document 01's table T */
 struct table table_s(void);          /* S1 = 0, X = 1, S2 = 2, B = 3, C = 4 */
 struct table table_xyz(void);        /* X = 0, Y = 1, Z = 2 */
 struct table table_doubling(int n);  /* job k: a, then job k-1 twice */
-struct table table_full(int rules);  /* 24 jobs and this number of rules, 24 or more: job k: a, then job k-1 */
+struct table table_full(int rules);  /* 24 jobs and this number of rules, 24 or more: job k: a, then job k-1; other moves of all sizes */
+
+enum { EDGES = 6 };
+struct table table_edges(void);      /* a job each for the moves 0, 255, 256, 65,535, 'a' and 'a' + 256 */
 
 /* The refusal of an image or a rule list, 2 to 7 or 0 for none, worked out from the documents. */
 int refusal_of_image(const uint8_t *image, size_t len);

@@ -90,6 +90,42 @@ static void good_tables(void)
         both_ways(&tables[i]);
 }
 
+/* The bytes of moves in their places, and a worked place. */
+static void moves_of_two_bytes(void)
+{
+    static const uint8_t low_high[EDGES][2] = { { 0, 0 }, { 255, 0 }, { 0, 1 }, { 255, 255 }, { 'a', 0 }, { 'a', 1 } };
+    static const uint8_t place[8] = { 1, 232, 1, 0, 0, 0, 0, 3 }; /* job 1: 1,000, then job 0 */
+    struct table t = table_edges();
+    uint8_t image[512];
+    CHECK_EQ(gindrazoma_write_image(t.jobs, t.bytes, rule_bytes(&t), image, sizeof image), 512);
+    for (int k = 0; k < EDGES; k++) {
+        CHECK_EQ(image[2 + 8 * k + 1], low_high[k][0]);
+        CHECK_EQ(image[2 + 8 * k + 7], low_high[k][1]);
+    }
+    both_ways(&t);
+    t = table_t();
+    memcpy(t.bytes + 8, place, 8);
+    CHECK_EQ(gindrazoma_write_image(t.jobs, t.bytes, rule_bytes(&t), image, sizeof image), 512);
+    CHECK(memcmp(image + 10, place, 8) == 0);
+    CHECK_EQ(image[510] + 256 * image[511], 546);
+    both_ways(&t);
+}
+
+/* Byte 7 may be set in a place in use and in no other. */
+static void last_bytes_of_places(void)
+{
+    struct table t = table_full(100);
+    uint8_t image[2560], copy[2560], read[2017];
+    size_t len = image_of(&t, image);
+    for (size_t place = 0; place < 126; place++) {
+        size_t at = 512 * (place / 63) + 2 + 8 * (place % 63) + 7;
+        memcpy(copy, image, len);
+        copy[at] = (uint8_t)(image[at] + 1 + random_below(255));
+        seal(copy + 512 * (place / 63));
+        CHECK_EQ(gindrazoma_read_image(copy, len, read, sizeof read), place < 100 ? 801 : -5);
+    }
+}
+
 static void several_blocks(void)
 {
     const int rules[] = { 24, 62, 63, 64, 125, 126, 127, 188, 189, 190, 251, 252 };
@@ -281,10 +317,10 @@ static void order_of_refusals(void)
     copy[1024 + 508] = 4;
     seal(copy + 1024);
     CHECK_EQ(read_into(copy, len, 0, NULL, -4), -4);
-    memcpy(copy, image, len); /* a place of the last block, and job 0 without its end */
+    memcpy(copy, image, len); /* an unused place of the last block, and job 0 without its end */
     copy[2 + 2] = 1;
     seal(copy);
-    copy[1024 + 2 + 7] = 1;
+    copy[1024 + 2 + 8 * 4 + 7] = 1;
     seal(copy + 1024);
     CHECK_EQ(read_into(copy, len, 0, NULL, -5), -5);
 
@@ -346,6 +382,8 @@ static void norms_511_512_513(void)
 static const struct check_case cases[] = {
     { "table T", example_table },
     { "good tables", good_tables },
+    { "moves of two bytes", moves_of_two_bytes },
+    { "the last byte of places", last_bytes_of_places },
     { "24 to 252 rules", several_blocks },
     { "output of every length", output_of_every_length },
     { "NULL with length 0", null_with_length_0 },

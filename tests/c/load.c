@@ -8,7 +8,7 @@
 #include <stdlib.h>
 #include <string.h>
 
-enum { SPACE = 65536, OUT = 4100, TABLES = 6, CALLS = 256, THREADS = 8, STACK = 1 << 20 };
+enum { SPACE = 65536, OUT = 8192, TABLES = 6, CALLS = 256, THREADS = 8, STACK = 1 << 20 };
 
 static struct table tables[TABLES];
 static uint8_t images[TABLES][2560];

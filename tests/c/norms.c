@@ -91,7 +91,7 @@ static int take_rule(uint8_t *ends, size_t wide, const uint8_t *rule, size_t i, 
     return news;
 }
 
-/* Whether moves can lead from a plan to the empty plan. */
+/* Whether moves, two bytes each, can lead from a plan to the empty plan. */
 static int leads_to_end(const struct table *t, const uint8_t *plan, size_t len, const uint8_t *run, size_t moves)
 {
     size_t wide = moves + 1;
@@ -102,7 +102,7 @@ static int leads_to_end(const struct table *t, const uint8_t *plan, size_t len, 
         for (int news = 1; news;) {
             news = 0;
             for (size_t r = 0; r < t->rules; r++)
-                if (t->bytes[8 * r + 1] == run[i])
+                if (move_of(t->bytes + 8 * r) == run[2 * i] + 256 * run[2 * i + 1])
                     news |= take_rule(ends, wide, t->bytes + 8 * r, i, now, next);
         }
     memset(now, 0, wide);
@@ -115,19 +115,20 @@ static int leads_to_end(const struct table *t, const uint8_t *plan, size_t len, 
 }
 
 /* A shortest run on output areas beyond, at and below its length; the run is replayed. */
-static void run_of(const struct table *t, const uint8_t *plan, size_t len, int32_t norm)
+static void run_of(const struct table *t, const uint8_t *plan, size_t len, size_t norm)
 {
     struct area in = area_copy(image, image_len), p = area_copy(plan, len);
     for (size_t beyond = 0; beyond < 3; beyond++) {
-        struct area out = area_new((size_t)norm + beyond);
-        CHECK_EQ(gindrazoma_shortest_run(in.bytes, in.len, p.bytes, p.len, out.bytes, out.len), norm);
-        CHECK(area_kept(&out, (size_t)norm));
+        struct area out = area_new(2 * norm + beyond);
+        CHECK_EQ(gindrazoma_shortest_run(in.bytes, in.len, p.bytes, p.len, out.bytes, out.len), (int32_t)(2 * norm));
+        CHECK(area_kept(&out, 2 * norm));
         if (t != NULL)
-            CHECK(leads_to_end(t, plan, len, out.bytes, (size_t)norm));
+            CHECK(leads_to_end(t, plan, len, out.bytes, norm));
         area_free(&out);
     }
-    if (norm > 0) {
-        struct area out = area_new((size_t)norm - 1);
+    const size_t below[] = { 1, 2, norm, 2 * norm };
+    for (int i = 0; norm > 0 && i < 4; i++) {
+        struct area out = area_new(2 * norm - below[i]);
         CHECK_EQ(gindrazoma_shortest_run(in.bytes, in.len, p.bytes, p.len, out.bytes, out.len), -10);
         CHECK(area_kept(&out, 0));
         area_free(&out);
@@ -256,10 +257,11 @@ static void every_move(const struct table *t)
                 const uint8_t *p = t->bytes + 8 * r;
                 if (p[0] != j)
                     continue;
-                size_t need = 1u + p[2] + behind;
+                size_t need = 2u + p[2] + behind;
                 wanted[0] = p[1];
-                memcpy(wanted + 1, p + 3, p[2]);
-                memcpy(wanted + 1 + p[2], plan + 1, behind);
+                wanted[1] = p[7];
+                memcpy(wanted + 2, p + 3, p[2]);
+                memcpy(wanted + 2 + p[2], plan + 1, behind);
                 for (size_t beyond = 0; beyond < 3; beyond++)
                     CHECK_EQ(move_at(plan, 1 + behind, index, need + beyond, wanted, (int32_t)need), (int32_t)need);
                 CHECK_EQ(move_at(plan, 1 + behind, index, need - 1, NULL, -10), -10);
@@ -287,33 +289,59 @@ static void moves(void)
         t = table_full(rules[i]);
         every_move(&t);
     }
-    t = table_new(1); /* one job with every move, and each of them twice */
+    t = table_new(1); /* one job with many moves, and each of them twice */
     for (int i = 0; i < 252; i++)
-        add_rule(&t, 0, i / 2, i % 4, 0, 0, 0, 0);
+        add_rule(&t, 0, i / 2 * 513, i % 4, 0, 0, 0, 0);
     every_move(&t);
+    t = table_edges();
+    every_move(&t);
+}
+
+/* A plan that makes the moves 0, 255, 256, 65,535 and two with equal low bytes: the bytes of the only run, and of each move. */
+static void moves_of_two_bytes(void)
+{
+    static const uint8_t run[2 * EDGES] = { 0, 0, 255, 0, 0, 1, 255, 255, 'a', 0, 'a', 1 };
+    static const uint8_t plan[EDGES] = { 0, 1, 2, 3, 4, 5 };
+    struct table t = table_edges();
+    use(&t);
+    for (size_t n = 0; n < sizeof run + 4; n++) {
+        struct area out = area_new(n);
+        size_t used = n < sizeof run ? 0 : sizeof run;
+        CHECK_EQ(gindrazoma_shortest_run(image, image_len, plan, EDGES, out.bytes, out.len), used == 0 ? -10 : (int32_t)used);
+        CHECK(area_kept(&out, used));
+        CHECK(used == 0 || memcmp(out.bytes, run, used) == 0);
+        area_free(&out);
+    }
+    for (uint8_t k = 0; k < EDGES; k++) {
+        const uint8_t two[] = { k, 5 }, wanted[] = { run[2 * k], run[2 * k + 1], 5 };
+        CHECK_EQ(move_at(two, 2, 0, 3, wanted, 3), 3);
+        CHECK_EQ(move_at(two, 2, 0, 2, NULL, -10), -10);
+        CHECK_EQ(move_at(two, 1, 0, 2, wanted, 2), 2);
+        CHECK_EQ(move_at(two, 1, 0, 1, NULL, -10), -10);
+    }
 }
 
 static void moves_of_long_plans(void)
 {
     struct table t = table_new(1);
     rule0(&t, 0, 0);
-    add_rule(&t, 0, 255, 4, 0, 0, 0, 0);
+    add_rule(&t, 0, 65535, 4, 0, 0, 0, 0);
     use(&t);
-    uint8_t *plan = repeated(0, 4097), wanted[4100] = { 0 };
-    CHECK_EQ(move_at(plan, 4096, 0, 4096, wanted, 4096), 4096);
-    CHECK_EQ(move_at(plan, 4096, 0, 4095, NULL, -10), -10);
-    wanted[0] = 255;
-    CHECK_EQ(move_at(plan, 4096, 1, 4100, wanted, 4100), 4100);
-    CHECK_EQ(move_at(plan, 4096, 1, 4099, NULL, -10), -10);
-    CHECK_EQ(move_at(plan, 4096, 2, 4100, NULL, 0), 0);
-    CHECK_EQ(move_at(plan, 4097, 0, 4100, NULL, -9), -9);
+    uint8_t *plan = repeated(0, 4097), wanted[4101] = { 0 };
+    CHECK_EQ(move_at(plan, 4096, 0, 4097, wanted, 4097), 4097);
+    CHECK_EQ(move_at(plan, 4096, 0, 4096, NULL, -10), -10);
+    wanted[0] = wanted[1] = 255;
+    CHECK_EQ(move_at(plan, 4096, 1, GINDRAZOMA_MOVE_MAX, wanted, 4101), 4101);
+    CHECK_EQ(move_at(plan, 4096, 1, 4100, NULL, -10), -10);
+    CHECK_EQ(move_at(plan, 4096, 2, 4101, NULL, 0), 0);
+    CHECK_EQ(move_at(plan, 4097, 0, 4101, NULL, -9), -9);
     CHECK_EQ(move_at(plan, 4097, 9, 0, NULL, -9), -9);
     free(plan);
 }
 
 static void shortest_runs(void)
 {
-    struct table tables[] = { table_t(), table_s(), table_xyz(), table_full(24), table_full(252) };
+    struct table tables[] = { table_t(), table_s(), table_xyz(), table_full(24), table_full(252), table_edges() };
     for (size_t i = 0; i < sizeof tables / sizeof tables[0]; i++) {
         const struct table *t = &tables[i];
         use(t);
@@ -324,7 +352,8 @@ static void shortest_runs(void)
                 plan[k] = (uint8_t)random_below(t->jobs);
             int32_t norm = gindrazoma_plan_norm(image, image_len, plan, len);
             CHECK(norm >= (int32_t)len);
-            run_of(t, plan, len, norm);
+            if (norm >= 0)
+                run_of(t, plan, len, (size_t)norm);
         }
     }
 }
@@ -345,8 +374,11 @@ static void only_runs(void)
     for (size_t i = 0; i < sizeof runs / sizeof runs[0]; i++) {
         uint8_t out[16];
         size_t moves = strlen(runs[i].run);
-        CHECK_EQ(gindrazoma_shortest_run(image, image_len, runs[i].plan, runs[i].len, out, sizeof out), (int32_t)moves);
-        CHECK(memcmp(out, runs[i].run, moves) == 0);
+        CHECK_EQ(gindrazoma_shortest_run(image, image_len, runs[i].plan, runs[i].len, out, sizeof out), (int32_t)(2 * moves));
+        for (size_t k = 0; k < moves; k++) {
+            CHECK_EQ(out[2 * k], runs[i].run[k]);
+            CHECK_EQ(out[2 * k + 1], 0);
+        }
     }
 }
 
@@ -354,16 +386,16 @@ static void long_runs(void)
 {
     struct table t = table_doubling(9);
     t.jobs = 10;
-    rule1(&t, 9, 'b', 8);
+    rule1(&t, 9, 'b' + 256, 8);
     use(&t);
     uint8_t *plan = repeated(9, 8), *ones = repeated(0, 4096);
     run_of(NULL, plan, 8, 4096);
     run_of(NULL, ones, 4096, 4096);
-    uint8_t out[4096];
-    CHECK_EQ(gindrazoma_shortest_run(image, image_len, plan, 8, out, sizeof out), 4096);
+    uint8_t out[GINDRAZOMA_RUN_MAX];
+    CHECK_EQ(gindrazoma_shortest_run(image, image_len, plan, 8, out, sizeof out), 8192);
     for (int i = 0; i < 4096; i++)
-        CHECK_EQ(out[i], i % 512 == 0 ? 'b' : 'a');
-    CHECK_EQ(gindrazoma_shortest_run(image, image_len, ones, 4096, out, sizeof out), 4096);
+        CHECK_EQ(out[2 * i] + 256 * out[2 * i + 1], i % 512 == 0 ? 'b' + 256 : 'a');
+    CHECK_EQ(gindrazoma_shortest_run(image, image_len, ones, 4096, out, sizeof out), 8192);
     free(plan);
     free(ones);
 }
@@ -413,6 +445,7 @@ static const struct check_case cases[] = {
     { "plans of norm 4,096 and more", plans_of_4096 },
     { "no such job, anywhere", no_such_job },
     { "every index of every first job", moves },
+    { "moves of two bytes", moves_of_two_bytes },
     { "moves of long plans", moves_of_long_plans },
     { "shortest runs, replayed", shortest_runs },
     { "plans with one shortest run", only_runs },

@@ -165,9 +165,9 @@ static void one_move_more(void)
 }
 
 /* Moves are equal by all their bits: each two that differ in one bit. */
-static void moves_of_eight_bits(void)
+static void moves_of_sixteen_bits(void)
 {
-    for (int bit = 0; bit < 8; bit++) {
+    for (int bit = 0; bit < 16; bit++) {
         struct table t = table_new(4);
         for (int k = 0; k < 2; k++) {
             rule1(&t, 0, 'a' ^ (k << bit), 2 + k);
@@ -179,6 +179,40 @@ static void moves_of_eight_bits(void)
         compared("A", "B", 0);
         formed("AB", "AB");
     }
+}
+
+/* Two jobs are the same if their moves are equal, and apart if only the low bytes, or only the high bytes, are. */
+static void equal_low_bytes(void)
+{
+    struct table t = table_new(5);
+    rule0(&t, 0, 'a');
+    rule0(&t, 1, 'a' + 256);
+    rule0(&t, 2, 'a' + 256);
+    rule0(&t, 3, 'b' + 256);
+    rule0(&t, 4, 'a' + 65280);
+    use(&t);
+    compared("A", "B", 0);
+    compared("B", "C", 1);
+    compared("B", "D", 0);
+    compared("B", "E", 0);
+    compared("AB", "AC", 1);
+    compared("AB", "BA", 0);
+    formed("C", "B");
+    formed("ECDBA", "EBDBA");
+    t = table_new(2); /* one move more, which is no rule written twice */
+    rule0(&t, 0, 'a');
+    rule0(&t, 0, 'a' + 256);
+    rule0(&t, 1, 'a');
+    rule0(&t, 1, 'a');
+    use(&t);
+    compared("A", "B", 0);
+    formed("BA", "BA");
+    t = table_edges();
+    use(&t);
+    for (uint8_t j = 0; j < EDGES; j++)
+        for (uint8_t k = 0; k < EDGES; k++)
+            CHECK_EQ(compare_in(&j, 1, &k, 1, SPACE), j == k);
+    formed("FEDCBA", "FEDCBA");
 }
 
 static void order_by_norm(void)
@@ -355,7 +389,8 @@ static const struct check_case cases[] = {
     { "X and YZ: plans that grow", growing_plans },
     { "a rule written twice", doubled_rules },
     { "one move more", one_move_more },
-    { "moves that differ in one bit", moves_of_eight_bits },
+    { "moves that differ in one bit", moves_of_sixteen_bits },
+    { "equal moves and equal low bytes", equal_low_bytes },
     { "jobs ordered by norm", order_by_norm },
     { "apart after 0 to 23 rounds", many_rounds },
     { "remainders are judged", matches_that_only_fail_later },

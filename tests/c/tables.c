@@ -13,7 +13,7 @@ struct table table_new(uint32_t jobs)
 
 void add_rule(struct table *t, int job, int move, int after, int a, int b, int c, int d)
 {
-    const int place[8] = { job, move, after, a, b, c, d, 0 };
+    const int place[8] = { job, move % 256, after, a, b, c, d, move / 256 };
     for (int i = 0; i < 8; i++)
         t->bytes[8 * t->rules + (size_t)i] = (uint8_t)place[i];
     t->rules++;
@@ -32,6 +32,11 @@ void rule1(struct table *t, int job, int move, int a)
 void rule2(struct table *t, int job, int move, int a, int b)
 {
     add_rule(t, job, move, 2, a, b, 0, 0);
+}
+
+int move_of(const uint8_t *rule)
+{
+    return rule[1] + 256 * rule[7];
 }
 
 size_t rule_bytes(const struct table *t)
@@ -115,15 +120,25 @@ struct table table_full(int rules)
     for (int k = 1; k < 24; k++)
         rule1(&t, k, 'a', k - 1);
     for (int i = 24; i < rules; i++)
-        add_rule(&t, i % 24, i % 256, i % 5, i % 5 > 0 ? i % 7 : 0, i % 5 > 1 ? i % 11 : 0, i % 5 > 2 ? i % 13 : 0, i % 5 > 3 ? i % 24 : 0);
+        add_rule(&t, i % 24, 1000 * i % 65536, i % 5, i % 5 > 0 ? i % 7 : 0, i % 5 > 1 ? i % 11 : 0, i % 5 > 2 ? i % 13 : 0, i % 5 > 3 ? i % 24 : 0);
     return t;
 }
 
+struct table table_edges(void)
+{
+    static const int edges[EDGES] = { 0, 255, 256, 65535, 'a', 'a' + 256 };
+    struct table t = table_new(EDGES);
+    for (int k = 0; k < EDGES; k++)
+        rule0(&t, k, edges[k]);
+    return t;
+}
+
+/* Byte 7 is the high byte of the move and may be anything. */
 static int bad_place(uint32_t jobs, const uint8_t *p)
 {
     if (p[0] >= jobs || p[2] > 4)
         return 1;
-    for (int i = 0; i < 5; i++)
+    for (int i = 0; i < 4; i++)
         if (i < p[2] ? p[3 + i] >= jobs : p[3 + i] != 0)
             return 1;
     return 0;

@@ -24,10 +24,7 @@ fn head_is_good(block: &[u8], jobs: u8, k: usize, blocks: usize) -> bool {
 
 fn place_is_good(place: &[u8], jobs: u8) -> bool {
     let after = place[2] as usize;
-    place[0] < jobs
-        && after <= 4
-        && place[3..3 + after].iter().all(|&j| j < jobs)
-        && place[3 + after..RULE].iter().all(|&b| b == 0)
+    place[0] < jobs && after <= 4 && place[3..3 + after].iter().all(|&j| j < jobs) && place[3 + after..7].iter().all(|&b| b == 0)
 }
 
 fn places_are_good(block: &[u8], jobs: u8) -> bool {
@@ -38,7 +35,7 @@ fn places_are_good(block: &[u8], jobs: u8) -> bool {
 /// The table of an image that refusals 2 to 5 let pass.
 pub fn load(image: &[u8]) -> Answer<Table> {
     let blocks = image.len() / BLOCK;
-    if image.len() % BLOCK != 0 || !(1..=4).contains(&blocks) {
+    if !image.len().is_multiple_of(BLOCK) || !(1..=4).contains(&blocks) {
         return Err(2);
     }
     let each = || image.chunks_exact(BLOCK);
@@ -61,7 +58,7 @@ pub fn load(image: &[u8]) -> Answer<Table> {
 
 /// Refusals 2, 4 and 5 of a rule list.
 pub fn layout_of_list(jobs: u32, rules: &[u8]) -> Answer<()> {
-    if rules.is_empty() || rules.len() % RULE != 0 || rules.len() > RULE * RULES {
+    if rules.is_empty() || !rules.len().is_multiple_of(RULE) || rules.len() > RULE * RULES {
         return Err(2);
     }
     if !(1..=JOBS as u32).contains(&jobs) {

@@ -63,7 +63,7 @@ pub fn shortest_run(image: &[u8], plan: &[u8], out: &mut [u8]) -> i32 {
     answer(|| {
         let (table, norms) = checked(image)?;
         let [norm] = plan_norms(&norms, table.jobs, [plan])?;
-        let out = output(out, norm)?;
+        let out = output(out, 2 * norm)?;
         shortest(&table, &norms, plan, out);
         Ok(out.len() as i32)
     })
@@ -77,10 +77,10 @@ pub fn nth_move(image: &[u8], plan: &[u8], index: u32, out: &mut [u8]) -> i32 {
         let mut rules = (0..table.count).filter(|&r| table.job(r) == first as usize);
         let Some(r) = rules.nth(index as usize) else { return Ok(0) };
         let after = table.after(r);
-        let out = output(out, 1 + after.len() + behind.len())?;
-        out[0] = table.action(r);
-        out[1..1 + after.len()].copy_from_slice(after);
-        out[1 + after.len()..].copy_from_slice(behind);
+        let out = output(out, 2 + after.len() + behind.len())?;
+        out[..2].copy_from_slice(&table.action(r).to_le_bytes());
+        out[2..2 + after.len()].copy_from_slice(after);
+        out[2 + after.len()..].copy_from_slice(behind);
         Ok(out.len() as i32)
     })
 }

@@ -1,4 +1,4 @@
-//! A table: a job count and 8-byte rules.
+//! A table: a job count and 8-byte rules, and their moves as numbers.
 
 pub const RULE: usize = 8;
 pub const RULES: usize = 252;
@@ -8,11 +8,12 @@ pub struct Table {
     pub jobs: usize,
     pub count: usize,
     bytes: [u8; RULE * RULES],
+    actions: [u16; RULES],
 }
 
 impl Table {
     pub fn new(jobs: usize, rules: &[u8]) -> Table {
-        let mut table = Table { jobs, count: 0, bytes: [0; RULE * RULES] };
+        let mut table = Table { jobs, count: 0, bytes: [0; RULE * RULES], actions: [0; RULES] };
         table.push(rules);
         table
     }
@@ -20,7 +21,11 @@ impl Table {
     pub fn push(&mut self, rules: &[u8]) {
         let at = self.count * RULE;
         self.bytes[at..at + rules.len()].copy_from_slice(rules);
-        self.count += rules.len() / RULE;
+        let places = rules.as_chunks::<RULE>().0;
+        for (action, place) in self.actions[self.count..].iter_mut().zip(places) {
+            *action = u16::from_le_bytes([place[1], place[7]]);
+        }
+        self.count += places.len();
     }
 
     pub fn bytes(&self) -> &[u8] {
@@ -36,8 +41,8 @@ impl Table {
         self.bytes[r * RULE] as usize
     }
 
-    pub fn action(&self, r: usize) -> u8 {
-        self.bytes[r * RULE + 1]
+    pub fn action(&self, r: usize) -> u16 {
+        self.actions[r]
     }
 
     pub fn after(&self, r: usize) -> &[u8] {

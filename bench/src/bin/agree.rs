@@ -1,5 +1,5 @@
-//! The plain programs beside the second comparer: what the benchmark measures against answers rightly. The library and they on the
-//! pairs of plans that are timed table by table, which are as they shall be.
+//! The plain programs beside the second comparer: what the benchmark measures against answers rightly, and writes runs and moves
+//! by the definitions. The library and they on the pairs of plans that are timed table by table, which are as they shall be.
 use bench::calls::COMPARE;
 use bench::inputs::{single_table, SINGLE_TABLES};
 use bench::pairs::{place_of, NEAR, PLAN_NORM};
@@ -48,6 +48,29 @@ fn agrees(rng: &mut Rng, shape: Shape) -> Outcome {
             ensure!(out[n as usize..].iter().all(|&b| b == 0), "{name}: the output behind the form of {p:?}");
         }
         ensure_eq!(plain::plan_norm(&image, &p), made.norm(&p) as i32, "the norm of {p:?}");
+        runs_and_moves(&made, &image, &p)?;
+    }
+    Ok(())
+}
+
+/// The run and the moves of a plan that the plain program writes, into an area of their length and into one that is too short.
+fn runs_and_moves(made: &Made, image: &[u8], plan: &[u8]) -> Outcome {
+    let mut run = vec![0; 2 * made.norm(plan) as usize];
+    ensure_eq!(plain::shortest_run(image, plan, &mut run), run.len() as i32, "the run of {plan:?}");
+    ensure!(made.is_shortest_run(plan, &run), "{run:?} is no run of {plan:?} over {:?}", made.table);
+    if let Some((_, short)) = run.split_last_mut() {
+        ensure_eq!(plain::shortest_run(image, plan, short), -10, "the run of {plan:?} into an area one too short");
+    }
+    for (index, (action, rest)) in (0..).zip(made.table.moves(plan)) {
+        let wanted = [&action.to_le_bytes(), &rest[..]].concat();
+        let mut out = vec![0; wanted.len()];
+        ensure_eq!(
+            plain::nth_move(image, plan, index, &mut out[1..]),
+            -10,
+            "move {index} of {plan:?} into an area one too short"
+        );
+        ensure_eq!(plain::nth_move(image, plan, index, &mut out), wanted.len() as i32, "move {index} of {plan:?}");
+        ensure_eq!(out, wanted, "move {index} of {plan:?} over {:?}", made.table);
     }
     Ok(())
 }

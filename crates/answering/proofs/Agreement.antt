@@ -50,6 +50,13 @@ module _ (rs sums prints : List ℕ) (gap value power r s : ℕ) where
     all = λ m k same. absurd (n k);
   }
 
+  pub prints-differ : (Same-print rs prints value power r s → ⊥) → May false
+  prints-differ n = record {
+    move = λ h. absurd (true≢false (sym h));
+    norm = λ h. absurd (true≢false (sym h));
+    all = λ m k same. absurd (n same);
+  }
+
   pub steps-equal : (out : Bool) → rule-at rs r .move ≡ rule-at rs s .move → getD sums r 0 ≡ getD sums s 0 + gap →
       (Same-print rs prints value power r s → out ≡ true) → May out
   steps-equal out m n p = record { move = λ h. m; norm = λ h. n; all = λ a b same. p same }

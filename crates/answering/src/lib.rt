@@ -4,8 +4,9 @@ use area::wide;
 use fingerprints::joined;
 use fingerprints::wide_print;
 use form::same_forms;
+use rules::high_differs;
+use rules::low_differs;
 use rules::rule_after;
-use rules::rule_move;
 use rules::rule_total;
 ghost use mathlib.Core.Path.{_≡_};
 ghost use mathlib.Core.Bool.{true};
@@ -76,7 +77,7 @@ fn same_print(rules: &[u8], prints: &[u32; 300], pair: Pair, r: usize, s: usize)
 }
 
 // Whether rule r of Y and rule s of X may agree: their moves are equal, and what they leave has equal norms and no unequal fingerprints. It
-// is not expanded for that.
+// is not expanded for that. Few rules that pass the other tests differ in the high byte of the move, so that it is asked last.
 fn may_agree(
     rules: &[u8],
     sums: &[u16; 252],
@@ -90,13 +91,19 @@ fn may_agree(
     requires { ⌜ (r < rule-count (now rules)) × (s < rule-count (now rules)) ⌝ }
     ensures { λ out. ⌜ MayAgree (now (rules .entry)) (now (sums .entry)) (now (prints .entry)) (pair .gap) (pair .value) (pair .power) r s out ⌝ }
 {
-    if rule_move(rules, r) != rule_move(rules, s) {
+    if low_differs(rules, r, s) {
         return false;
     }
     if remainder_norm(sums, r, 0) != remainder_norm(sums, s, pair.gap) {
         return false;
     }
-    same_print(rules, prints, pair, r, s)
+    if same_print(rules, prints, pair, r, s) {
+        if high_differs(rules, r, s) {
+            return false;
+        }
+        return true;
+    }
+    false
 }
 
 // Whether what rule r of Y and rule s of X leave is equal, the tail standing behind X: by the new rows if the norm falls, else by the old ones.

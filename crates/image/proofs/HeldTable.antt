@@ -1,6 +1,6 @@
 -- The table that an accepted image holds: how many rules, which bytes, and that it is one that the writer would accept. Assumes nothing.
-use mathlib.Core.Path.{_≡_, refl, ap, _∙_}
-use mathlib.Core.Bool.{true}
+use mathlib.Core.Path.{_≡_, refl, ap, ap₂, _∙_}
+use mathlib.Core.Bool.{Bool, true, _&&_}
 use mathlib.Core.List.{List, _++_}
 use Prim.Native.Nat.{ℕ, zero, suc, _+_, _*_, _-_, _≤_, _<_}
 use native.Mathlib.Nat.{zero-add, add-zero, suc-add}
@@ -8,14 +8,14 @@ use native.Mathlib.Omega.{arith}
 use lib.ListN.{length, getD, take, drop, length-append, length-take, length-drop}
 use lib.Seq.{drop-drop, drop-at, take-at}
 use Rattle.rules.specs.Lists.{GoodList}
-use Rattle.rules.specs.Places.{all-zero, places-good, rule-count}
-use Rattle.image.specs.Image.{block, blocks-in, rules-in-block, block-places, places-from, image-jobs, image-places, layout-refusal, places-of-block}
+use Rattle.rules.specs.Places.{all-zero, place-good, each-place, places-good, rule-count}
+use Rattle.image.specs.Image.{block, blocks-in, rules-in-block, block-places, each-block, places-from, image-jobs, image-places, layout-refusal, places-of-block}
 use Rattle.image.specs.Writing.{list-refusal}
-use Rattle.bpa.proofs.Basics.Cases.{and-left, and-both}
-use Rattle.image.proofs.Blocks.{block-length}
+use Rattle.bpa.proofs.Basics.Cases.{and-left}
+use Rattle.image.proofs.Blocks.{block-length, each-all}
 use Rattle.image.proofs.AcceptedImages.{LaidOut, laid-out}
 use Rattle.image.proofs.ListRefusal.{list-passes}
-use Rattle.image.proofs.PlaceRows.{places-local, places-split}
+use Rattle.image.proofs.PlaceRows.{each-local, each-split}
 
 -- the rules of so many blocks from block k on
 unfoldable pub rules-from : (left k : ℕ) → (image : List ℕ) → ℕ
@@ -57,19 +57,22 @@ module _ (bs : List ℕ) (g : LaidOut bs) where
       let r = rules-in-block x in
       and-left (places-good r (getD bs 0 0) (drop 2 x)) (all-zero (take (504 - 8 * r) (drop (2 + 8 * r) x))) (g .places k h)
 
-  from-good : (m k : ℕ) → k + m ≤ blocks-in bs → places-good (rules-from m k bs) (getD bs 0 0) (places-from m k bs) ≡ true
-  unfolding places-from rules-from block-places places-good
-  from-good zero k h = refl
-  from-good (suc m) k h =
-      let n = getD bs 0 0 in
-      let r = rules-in-block (block k bs) in
-      let here = block-places (block k bs) in
-      let later = places-from m (suc k) bs in
-      let sized = places-length k (omega arith) in
-      places-split r (rules-from m (suc k) bs) n (here ++ later)
-      ∙ and-both (places-good r n (here ++ later)) (places-good (rules-from m (suc k) bs) n (drop (8 * r) (here ++ later)))
-      (places-local r n (here ++ later) (drop 2 (block k bs)) (take-at here later (8 * r) sized) ∙ in-block k (omega arith))
-      (ap (places-good (rules-from m (suc k) bs) n) (drop-at here later (8 * r) sized) ∙ from-good m (suc k) (omega arith))
+  -- what is asked of each place of the image is asked of the places of each block
+  module _ (f : List ℕ → Bool) where
+    abbrev in-one : ℕ → Bool
+    in-one k = each-place f (rules-in-block (block k bs)) (drop 2 (block k bs))
+
+    from-each : (m k : ℕ) → k + m ≤ blocks-in bs → each-place f (rules-from m k bs) (places-from m k bs) ≡ each-block in-one m k
+    unfolding places-from rules-from block-places each-place each-block
+    from-each zero k h = refl
+    from-each (suc m) k h =
+        let r = rules-in-block (block k bs) in
+        let here = block-places (block k bs) in
+        let later = places-from m (suc k) bs in
+        let sized = places-length k (omega arith) in
+        each-split f r (rules-from m (suc k) bs) (here ++ later)
+        ∙ ap₂ _&&_ (each-local f r (here ++ later) (drop 2 (block k bs)) (take-at here later (8 * r) sized))
+        (ap (each-place f (rules-from m (suc k) bs)) (drop-at here later (8 * r) sized) ∙ from-each m (suc k) (omega arith))
 
   -- the image's rules from block k on stand 504 * k bytes after the first
   pub from-later : (m j k : ℕ) → k + (j + m) ≡ blocks-in bs → 1 ≤ m → drop (504 * j) (places-from (j + m) k bs) ≡ places-from m (k + j) bs
@@ -101,9 +104,14 @@ module _ (bs : List ℕ) (g : LaidOut bs) where
   unfolding image-places
   image-length = let sized = from-length (blocks-in bs) 0 (omega arith) in let total = count-is in omega arith
 
-  image-good : places-good (rules-from (blocks-in bs) 0 bs) (getD bs 0 0) (image-places bs) ≡ true
+  pub image-each : (f : List ℕ → Bool) → each-place f (rule-count (image-places bs)) (image-places bs) ≡ each-block (in-one f) (blocks-in bs) 0
   unfolding image-places
-  image-good = from-good (blocks-in bs) 0 (omega arith)
+  image-each f = ap (λ m. each-place f m (image-places bs)) count-is ∙ from-each f (blocks-in bs) 0 (omega arith)
+
+  image-good : places-good (rule-count (image-places bs)) (getD bs 0 0) (image-places bs) ≡ true
+  unfolding places-good
+  image-good =
+      image-each (place-good (getD bs 0 0)) ∙ each-all (in-one (place-good (getD bs 0 0))) (blocks-in bs) 0 (λ k low high. in-block k (omega arith))
 
   -- the table of an accepted image is one that the writer would accept
   pub held : GoodList (image-jobs bs) (image-places bs)
@@ -114,7 +122,7 @@ module _ (bs : List ℕ) (g : LaidOut bs) where
     few = let bounds = count-bounds in omega arith;
     job = let here = g .heads 0 (omega arith) .some-jobs in let same = g .heads 0 (omega arith) .same-jobs in omega arith;
     jobs = let here = g .heads 0 (omega arith) .few-jobs in let same = g .heads 0 (omega arith) .same-jobs in omega arith;
-    places = rw count-is image-good;
+    places = image-good;
   }
 
 -- one condition for image tables and written lists alike

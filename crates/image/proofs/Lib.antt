@@ -13,4 +13,5 @@ pub mod ImageBack
 pub mod BlockChecks
 pub mod WrittenBlocks
 pub mod TableBack
+pub mod ByteRows
 pub mod TableBytes

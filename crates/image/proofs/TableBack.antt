@@ -132,7 +132,7 @@ module _ (n : ℕ) (rs : List ℕ) (g : GoodList n rs) where
   table-held = λ i. table-of (jobs-held i) (places-held i)
 
 module _ (n : ℕ) (rs : List ℕ) (h : write-refusal n rs ≡ 0) where
-  good : GoodList n rs
+  pub good : GoodList n rs
   unfolding write-refusal
   good = good-list n rs (neither (list-refusal n rs) (table-refusal (table-of n rs)) h .0)
 

@@ -19,7 +19,7 @@ fn all_zero(bytes: &[u8]) -> bool
     true
 }
 
-// Jobs below the count, at most four jobs after, zeros behind them.
+// Jobs below the count, at most four jobs after, zeros behind them up to the last byte, which is the move's.
 fn place_good(jobs: usize, place: &[u8]) -> bool
     requires { ⌜ length (now place) ≡ 8 ⌝ }
     ensures { λ r. ⌜ r ≡ place-good jobs (now (place .entry)) ⌝ }
@@ -33,7 +33,7 @@ fn place_good(jobs: usize, place: &[u8]) -> bool
     }
     let end = 3 + after;
     if rules::all_below(jobs, &place[3..end]) {
-        return all_zero(&place[end..8]);
+        return all_zero(&place[end..7]);
     }
     false
 }

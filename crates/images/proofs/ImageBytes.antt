@@ -1,10 +1,10 @@
 -- The bytes of a table and of an image, as the code counts and writes them. Assumes nothing.
 use mathlib.Core.Path.{_≡_, sym, ap, _∙_}
 use mathlib.Core.List.{List, [], _∷_}
-use Prim.Native.Nat.{ℕ, _+_, _*_, _/_, _≤_}
+use Prim.Native.Nat.{ℕ, _+_, _*_, _/_, _≤_, _<_}
 use native.Mathlib.Omega.{arith}
-use lib.ListN.{length, take, set}
-use Rattle.bpa.specs.Plans.{Table}
+use lib.ListN.{length, getD, set}
+use Rattle.bpa.proofs.Basics.JobsBelow.{below-all}
 use Rattle.area.specs.Areas.{put, IsPut}
 use Rattle.area.proofs.PutLaws.{put-one, put-put}
 use Rattle.rules.specs.Places.{rule-count, table-of, table-bytes}
@@ -15,11 +15,10 @@ use Rattle.image.specs.Writing.{written, blocks-for, list-refusal, write-refusa
 use Rattle.image.proofs.TableBytes.{bytes-of-list}
 use Rattle.image.proofs.ListRefusal.{good-list}
 use Rattle.image.proofs.WrittenImages.{written-size}
-use Rattle.table.specs.Tables.{Holds}
 
--- a table that is held is written as its job count and the bytes of its rules
-pub held-bytes : {t : Table} {jobs end : ℕ} {rules ns : List ℕ} → Holds t jobs end rules ns → jobs ∷ take end rules ≡ table-bytes t
-held-bytes {t} {jobs} {end} {rules} h = sym (bytes-of-list jobs (take end rules) (h .good .list)) ∙ ap table-bytes (h .is)
+-- the table of a list of bytes is written as its job count and those bytes
+pub listed-bytes : (jobs : ℕ) (rs : List ℕ) → GoodList jobs rs → ((i : ℕ) → getD rs i 0 < 256) → table-bytes (table-of jobs rs) ≡ jobs ∷ rs
+listed-bytes jobs rs g bytes = bytes-of-list jobs rs g (below-all 256 rs (λ i h. bytes i))
 
 -- a job count and bytes put behind it
 pub behind-count : (j : ℕ) (rs xs : List ℕ) {n : ℕ} {ys : List ℕ} → 1 ≤ length xs → IsPut 1 rs (set xs 0 j) n ys →

@@ -1,15 +1,13 @@
 // The calls that read and write images.
-ghost use mathlib.Core.List.{_∷_};
-ghost use Prim.Native.Nat.{_≤_, _<_};
-ghost use lib.ListN.{length};
+ghost use Rattle.rules.specs.Places.{table-of, table-bytes};
+ghost use Rattle.rules.specs.Lists.{GoodList};
 ghost use Rattle.answer.specs.Answer.{Writes};
 ghost use Rattle.images.specs.ImageCalls.{Read, Written};
 
-// Writes a job count in one byte, then the rules, or refuses by 10.
+// Writes the table of a list of rules: its job count in one byte, then the rules, or refuses by 10.
 fn write_table(jobs: usize, rules: &[u8], out: &mut [u8]) -> i32
-    requires { ⌜ jobs < 256 ⌝ }
-    requires { ⌜ length (now rules) ≤ 2016 ⌝ }
-    ensures { λ r. ⌜ Writes 0 (jobs ∷ now (rules .entry)) (now (out .entry)) r (now (out .exit)) ⌝ }
+    requires { ⌜ GoodList jobs (now rules) ⌝ }
+    ensures { λ r. ⌜ Writes 0 (table-bytes (table-of jobs (now (rules .entry)))) (now (out .entry)) r (now (out .exit)) ⌝ }
 {
     if out.len() < 1 + rules.len() {
         return -10;

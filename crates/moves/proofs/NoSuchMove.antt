@@ -8,11 +8,12 @@ use native.Mathlib.Omega.{arith}
 use lib.Dec.{eqb}
 use lib.ListN.{length}
 use Rattle.bpa.specs.Plans.{Rule, Table, Move, job-moves, moves}
+use Rattle.area.specs.Numbers.{low-first}
 use Rattle.moves.specs.Moves.{move-bytes, rules-of, first-rules}
 
 -- a list has its n-th move exactly if n is below its length
 ends : (ms : List Move) (n : ℕ) → move-bytes ms n ≡ [] → length ms ≤ n
-unfolding move-bytes
+unfolding move-bytes low-first
 ends [] n e = omega arith
 ends (m ∷ ms) zero e = absurd (cons≢nil e)
 ends (m ∷ ms) (suc n) e = let h = ends ms n e in omega arith

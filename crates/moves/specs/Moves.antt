@@ -6,13 +6,14 @@ use Prim.Native.Nat.{ℕ, zero, suc, _≤_}
 use lib.Dec.{ltb, eqb}
 use lib.ListN.{length}
 use Rattle.bpa.specs.Plans.{Rule, Table, Move, job-moves}
+use Rattle.area.specs.Numbers.{low-first}
 use Rattle.rules.specs.Places.{rules-in, rule-count, rule-at}
 use Rattle.rules.specs.Lists.{HasPlace}
 
--- THE n-TH MOVE of a list: its number, then the remaining plan; nothing if there is no such move
+-- THE n-TH MOVE of a list: its number in two bytes, then the remaining plan; nothing if there is no such move
 unfoldable pub move-bytes : List Move → (n : ℕ) → List ℕ
 move-bytes [] n = []
-move-bytes (m ∷ ms) zero = m .move ∷ m .rest
+move-bytes (m ∷ ms) zero = low-first (m .move) ++ m .rest
 move-bytes (m ∷ ms) (suc n) = move-bytes ms n
 
 -- how many rules the first job of a plan has
@@ -26,7 +27,7 @@ first-rules t (j ∷ js) = rules-of j (t .rules)
 
 -- the bytes of a move by the rule at a place, with jobs that wait
 unfoldable pub bytes-by : (rules : List ℕ) → (i : ℕ) → (waiting : List ℕ) → List ℕ
-bytes-by rs i w = rule-at rs i .move ∷ (rule-at rs i .after ++ w)
+bytes-by rs i w = low-first (rule-at rs i .move) ++ (rule-at rs i .after ++ w)
 
 -- the place of the n-th rule of a job, or the end of the list
 pub record IsNth (rs : List ℕ) (j n i : ℕ) : Type 0 where

@@ -29,13 +29,13 @@ fn find_rule(rules: &[u8], job: usize, index: u32) -> usize
     total
 }
 
-// Writes a move: its number, the jobs after it, the jobs that wait.
+// Writes a move: its number in two bytes, the jobs after it, the jobs that wait.
 fn write_move(rules: &[u8], i: usize, waiting: &[u8], out: &mut [u8]) -> usize
     requires { ⌜ RoomFor (now rules) i (now waiting) (now out) ⌝ }
     ensures { λ r. ⌜ IsPut 0 (bytes-by (now (rules .entry)) i (now (waiting .entry))) (now (out .entry)) r (now (out .exit)) ⌝ }
 {
-    out[0] = rules::rule_move(rules, i) as u8;
-    let behind = area::put(out, 1, rules::rule_after(rules, i));
+    area::put_number(rules::rule_move(rules, i) as usize, 0, out);
+    let behind = area::put(out, 2, rules::rule_after(rules, i));
     area::put(out, behind, waiting)
 }
 
@@ -54,7 +54,7 @@ pub fn nth_move(jobs: usize, rules: &[u8], plan: &[u8], index: u32, out: &mut [u
     if i >= rules::rule_total(rules) {
         return 0;
     }
-    let need = plan.len() + rules::rule_len(rules, i);
+    let need = plan.len() + rules::rule_len(rules, i) + 1;
     if out.len() < need {
         return -10;
     }

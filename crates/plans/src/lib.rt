@@ -36,7 +36,7 @@ pub fn nth_move(image: &[u8], plan: &[u8], index: u32, out: &mut [u8]) -> i32
     )
 }
 
-// A shortest run: as many moves as the norm.
+// A shortest run: as many moves as the norm, two bytes each.
 pub fn shortest_run(image: &[u8], plan: &[u8], out: &mut [u8]) -> i32
     ensures { λ r. ⌜ Ran (now (image .entry)) (now (plan .entry)) (now (out .entry)) r (now (out .exit)) ⌝ }
 {

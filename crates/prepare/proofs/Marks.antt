@@ -17,7 +17,7 @@ use Rattle.bpa.specs.Norms.{sum-of}
 use Rattle.bpa.proofs.Basics.Cases.{by-test, never-both}
 use Rattle.bpa.proofs.Basics.SameSteps.{Follows, Same-steps}
 use Rattle.rules.specs.Places.{rule-at, rule-count, table-of}
-use Rattle.prepare.specs.Prepared.{all-rules, of-job, step-bit, mark, Marked}
+use Rattle.prepare.specs.Prepared.{all-rules, of-job, step-number, step-bit, mark, Marked}
 use Rattle.prepare.proofs.FirstRule.{all-cons, all-end}
 use Rattle.prepare.proofs.FirstRuleArray.{own-job, job-own}
 
@@ -94,7 +94,7 @@ module _ (n : ℕ) (rs ns : List ℕ) (small : (j : ℕ) → j < n → getD ns j
       let (v, k, d) = f (r .move) (r .after) (subst (λ (u : Rule). List·Memᴰ u (all-rules rs)) (sym own) m) in
       let change : sum-of ns (r .after) + 512 - getD ns (r .job) 0 ≡ sum-of ns v + 512 - getD ns x 0 =
       ap (λ (j : ℕ). sum-of ns (r .after) + 512 - getD ns j 0) (own-job y r e) ∙ omega (arith, d, small y hy, small x hx) in
-      ap (λ (u : ℕ). bitOr (2 ^ ((r .move + 11 * u) % 64)) (mark ns x (all-rules rs))) change
+      ap (λ (u : ℕ). bitOr (2 ^ step-number (r .move) u) (mark ns x (all-rules rs))) change
       ∙ bit-in ns x (all-rules rs) (record { job = x; move = r .move; after = v }) k (job-own x (record { job = x; move = r .move; after = v }) refl))
 
   pub same-mark : (marks : List ℕ) → Marked n rs ns marks → (y x : ℕ) → Same-steps (table-of n rs) ns y x → y < n → x < n →

@@ -2,7 +2,7 @@
 use mathlib.Core.Path.{_≡_}
 use mathlib.Core.Bool.{Bool, true, _&&_, cond}
 use mathlib.Core.List.{List, [], _∷_}
-use Prim.Native.Nat.{ℕ, suc, _+_, _-_, _*_, _%_, _^_, _≤_, _<_}
+use Prim.Native.Nat.{ℕ, suc, _+_, _-_, _*_, _/_, _%_, _^_, _≤_, _<_}
 use lib.Bits.{bitOr}
 use lib.Dec.{eqb}
 use lib.ListN.{length, getD}
@@ -71,9 +71,13 @@ pub record OnChain (rs : List ℕ) (j i : ℕ) : Type 0 where
   pub within : i ≤ rule-count rs
   pub own : i < rule-count rs → rule-at rs i .job ≡ j
 
+-- a number below 64 for a step: both bytes of its move and its change of the norm count
+unfoldable pub step-number : (move change : ℕ) → ℕ
+step-number a d = (a + a / 256 + 11 * d) % 64
+
 -- a bit for each step: its move and its change of the norm, which is at least -512
 unfoldable pub step-bit : (norms : List ℕ) → Rule → ℕ
-step-bit ns r = 2 ^ ((r .move + 11 * (sum-of ns (r .after) + 512 - getD ns (r .job) 0)) % 64)
+step-bit ns r = 2 ^ step-number (r .move) (sum-of ns (r .after) + 512 - getD ns (r .job) 0)
 
 -- the bits of a job's rules, joined
 unfoldable pub mark : (norms : List ℕ) → (job : ℕ) → List Rule → ℕ

@@ -93,7 +93,8 @@ pub fn mark_steps(jobs: usize, rules: &[u8], norms: &[u16; 24], sums: &[u16; 252
         i -= 1;
         let j = rule_job(rules, i);
         let change = sums[i] + 512 - norms[j];
-        let step = rule_move(rules, i) + 11 * change as u32;
+        let made = rule_move(rules, i);
+        let step = made + made / 256 + 11 * change as u32;
         marks[j] = marks[j] | (1u64 << (step % 64));
     }
     marks

@@ -1,13 +1,15 @@
 -- The promises about the numbers that the calls give back and the bytes that they write, each with its proved term. Assumes nothing.
 use mathlib.Core.Path.{_≡_, refl, sym, ap, subst, _∙_}
 use mathlib.Core.Bool.{true}
-use mathlib.Core.List.{List, [], _∷_, cons≢nil}
+use mathlib.Core.List.{List, [], _∷_, _++_, cons≢nil}
 use mathlib.Core.Logic.{_↔_}
-use Prim.Native.Nat.{ℕ, suc, _-_, _≤_, _<_}
+use Prim.Native.Nat.{ℕ, suc, _*_, _-_, _≤_, _<_}
 use native.Mathlib.Omega.{arith}
 use lib.IntN.{pos}
 use lib.ListN.{length, getD, take, drop}
-use Rattle.bpa.specs.Plans.{Runs, moves}
+use Rattle.area.specs.Numbers.{number-at, low-first, all-low-first, numbers-in}
+use Rattle.area.proofs.Numbers.{number-there, all-length, numbers-back}
+use Rattle.bpa.specs.Plans.{Step, Runs, moves}
 use Rattle.bpa.specs.Norms.{norms, norm, Fewest}
 use Rattle.bpa.specs.Bisimilar.{Bisimilar, Form}
 use Rattle.bpa.specs.Method.{same, prime-form}
@@ -25,7 +27,7 @@ use Rattle.refusal.specs.Refusals.{plan-refusal, plans-refusal, Accepted, Accep
 use Rattle.refusal.proofs.PlanRefusals.{accepted-plan, accepted-plans, job-passed}
 use Rattle.image.specs.Image.{image-refusal, image-jobs, image-places, table-in}
 use Rattle.image.specs.Writing.{write-refusal, written}
-use Rattle.image.proofs.TableBytes.{bytes-of-image}
+use Rattle.image.proofs.TableBytes.{bytes-of-list, bytes-of-image}
 use Rattle.image.proofs.ImageBack as images
 use Rattle.image.proofs.TableBack as tables
 use Rattle.moves.specs.Moves.{move-bytes}
@@ -37,6 +39,7 @@ use Rattle.sameness.specs.SamenessCalls.{Formed}
 use Rattle.promises.specs.Promises.{all-bytes}
 use Rattle.promises.specs.Calls as promised
 use Rattle.promises.proofs.ListedMoves.{listed-step, step-listed}
+use Rattle.promises.proofs.SmallMoves.{step-small, run-small}
 
 -- a job count and the rest of what was read
 parts : (n j : ℕ) (o ps : List ℕ) → n ≡ suc (length ps) → take n o ≡ j ∷ ps → (getD o 0 0 ≡ j) × (take (n - 1) (drop 1 o) ≡ ps)
@@ -52,7 +55,7 @@ image-survives bs o o′ u u′ n r b w v l =
     let s = written-result (image-refusal bs) (table-bytes (table-in bs)) o o′ n w in
     let j = image-jobs bs in
     let ps = image-places bs in
-    let e : table-bytes (table-in bs) ≡ j ∷ ps = bytes-of-image bs (image-passes bs (s .passed) .0) in
+    let e : table-bytes (table-in bs) ≡ j ∷ ps = bytes-of-image bs b (image-passes bs (s .passed) .0) in
     let (f, g) = parts n j o′ ps (s .count ∙ ap length e) (s .bytes ∙ e) in
     let back : written j ps ≡ bs = images.image-back bs (s .passed) b in
     let k : Writes (write-refusal j ps) (written j ps) u r u′ = rw (f, g) at v in
@@ -60,13 +63,12 @@ image-survives bs o o′ u u′ n r b w v l =
     rw back at m
 
 pub table-survives : promised.Table-survives
-unfolding promised.Table-survives
-table-survives jobs rs o o′ u u′ n r w v l =
+unfolding promised.Table-survives all-bytes
+table-survives jobs rs o o′ u u′ n r b w v l =
     let s = written-result (write-refusal jobs rs) (written jobs rs) o o′ n w in
     let z = tables.table-back jobs rs (s .passed) in
-    let e : table-bytes (table-in (written jobs rs)) ≡ jobs ∷ rs =
-    bytes-of-image (written jobs rs) (image-passes (written jobs rs) z .0)
-    ∙ (λ i. tables.table-jobs jobs rs (s .passed) i ∷ tables.table-places jobs rs (s .passed) i) in
+    let g = tables.good jobs rs (s .passed) in
+    let e : table-bytes (table-in (written jobs rs)) ≡ jobs ∷ rs = ap table-bytes (tables.table-held jobs rs g) ∙ bytes-of-list jobs rs g b in
     let k : Writes (image-refusal (written jobs rs)) (table-bytes (table-in (written jobs rs))) u r u′ = rw (s .bytes) at v in
     let m = result-written (image-refusal (written jobs rs)) (table-bytes (table-in (written jobs rs))) u r u′ z (rw e l) k in
     rw e at m
@@ -90,16 +92,30 @@ norm-given bs p n w =
     subst (Fewest t p) (sym v) (norm-fewest t (a .table .good) p (a .plan .over-table))
 
 pub run-written : promised.Run-written
-unfolding promised.Run-written
-run-written bs p o o′ n w =
+unfolding promised.Run-written all-bytes
+run-written bs p o o′ n b w =
     let t = table-in bs in
-    let s = written-result (one-plan bs p) (w .run) o o′ n (w .written) in
+    let s = written-result (one-plan bs p) (all-low-first (w .run)) o o′ n (w .written) in
     let a = accepted-both bs p (s .passed) in
-    let run = w .shortest (s .passed) in (
-      subst (λ (x : List ℕ). Runs t p x []) (sym (s .bytes)) (run .runs),
+    let run = w .shortest (s .passed) in
+    let moves-are : numbers-in (take n o′) ≡ w .run = ap numbers-in (s .bytes) ∙ numbers-back (w .run) (run-small bs b (run .runs)) in (
+      subst (λ (x : List ℕ). Runs t p x []) (sym moves-are) (run .runs),
       ap length (s .bytes) ∙ sym (s .count),
-      subst (Fewest t p) (sym (s .count ∙ run .count)) (norm-fewest t (a .table .good) p (a .plan .over-table)),
+      (
+        norm t p,
+        s .count ∙ all-length (w .run) ∙ ap (λ (m : ℕ). 2 * m) (run .count),
+        norm-fewest t (a .table .good) p (a .plan .over-table),
+      ),
     )
+
+-- a move of two bytes and what stands behind it
+module _ (a : ℕ) (q xs : List ℕ) (e : xs ≡ low-first a ++ q) (small : a < 65536) where
+  move-first : number-at 0 xs ≡ a
+  move-first = ap (number-at 0) e ∙ number-there [] a q 0 refl small
+
+  rest-behind : drop 2 xs ≡ q
+  unfolding low-first
+  rest-behind = ap (drop 2) e
 
 -- a list has no length exactly if it is empty
 no-length : (xs : List ℕ) → (length xs ≡ 0) ↔ (xs ≡ [])
@@ -107,7 +123,7 @@ no-length [] = (λ e. refl, λ e. refl)
 no-length (x ∷ xs) = (λ e. absurd (omega arith), λ e. absurd (cons≢nil e))
 
 pub move-written : promised.Move-written
-unfolding promised.Move-written
+unfolding promised.Move-written all-bytes
 move-written bs p o o′ i n w =
     let t = table-in bs in
     let bytes = move-bytes (moves t p) i in
@@ -118,18 +134,26 @@ move-written bs p o o′ i n w =
         (λ e. none .0 (no-length bytes .0 (sym (s .count) ∙ e))),
         (λ h. s .count ∙ no-length bytes .1 (none .1 h)),
       ),
-      λ l. let (a, q, e, step) = listed-step t p i (subst (λ (m : ℕ). 0 < m) (s .count) l) in (a, q, s .bytes ∙ e, step),
+      λ b l.
+          let (a, q, e, step) = listed-step t p i (subst (λ (m : ℕ). 0 < m) (s .count) l) in
+          let small = step-small bs b p q a step in
+          subst (λ (x : ℕ). Step t p x (drop 2 (take n o′))) (sym (move-first a q (take n o′) (s .bytes ∙ e) small))
+          (subst (Step t p a) (sym (rest-behind a q (take n o′) (s .bytes ∙ e) small)) step),
     )
 
 pub steps-written : promised.Steps-written
-unfolding promised.Steps-written
-steps-written bs p q a f step =
+unfolding promised.Steps-written all-bytes low-first
+steps-written bs p q a b f step =
     let t = table-in bs in
+    let small = step-small bs b p q a step in
     let (i, l, e) = step-listed t p q a step in (
       i,
-      λ o o′ r room w.
-          let k : Writes (one-plan bs p) (a ∷ q) o r o′ = subst (λ (x : List ℕ). Writes (one-plan bs p) x o r o′) e w in
-          result-written (one-plan bs p) (a ∷ q) o r o′ f room k,
+      λ o o′ r n is room w.
+          let k : Writes (one-plan bs p) (low-first a ++ q) o r o′ = subst (λ (x : List ℕ). Writes (one-plan bs p) x o r o′) e w in
+          let whole : n ≡ length (low-first a ++ q) = omega (arith, is) in
+          let (answer, bytes) = result-written (one-plan bs p) (low-first a ++ q) o r o′ f (omega arith) k in
+          let stands : take n o′ ≡ low-first a ++ q = ap (λ (m : ℕ). take m o′) whole ∙ bytes in
+          (answer ∙ ap pos (sym whole), move-first a q (take n o′) stands small, rest-behind a q (take n o′) stands small),
     )
 
 pub compare-tells : promised.Compare-tells

@@ -2,6 +2,7 @@
 use Rattle.promises.specs.EveryPromise.{EveryPromise}
 use Rattle.promises.proofs.Promises as promises
 use Rattle.promises.proofs.Calls as calls
+use Rattle.promises.proofs.BothAges as bothages
 use Rattle.promises.proofs.Remainders as remainders
 use Rattle.promises.proofs.WorkedCases as workedcases
 
@@ -11,6 +12,14 @@ every-promise = record {
   places-back = promises.places-back;
   images-tell = promises.images-tell;
   table-back = promises.table-back;
+  old-images-same = bothages.old-images-same;
+  old-lists-same = bothages.old-lists-same;
+  larger-meets-five = bothages.larger-meets-five;
+  larger-moves-meet-five = bothages.larger-moves-meet-five;
+  old-image-back = bothages.old-image-back;
+  old-table-back = bothages.old-table-back;
+  old-image-read = bothages.old-image-read;
+  old-table-written = bothages.old-table-written;
   image-table = promises.image-table;
   list-table = promises.list-table;
   six-exactly = promises.six-exactly;

@@ -2,8 +2,10 @@
 pub mod WrittenBytes
 pub mod ExactRefusals
 pub mod ListedMoves
+pub mod SmallMoves
 pub mod Promises
 pub mod Calls
+pub mod BothAges
 pub mod Remainders
 pub mod WorkedCases
 pub mod EveryPromise

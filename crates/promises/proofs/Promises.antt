@@ -1,10 +1,11 @@
 -- EVERY PROMISE about images, tables, plans and prime forms, with its proved term. Assumes nothing.
 use mathlib.Core.Path.{_≡_, refl, sym, ap, ap₂, _∙_}
+use mathlib.Core.Bool.{true}
 use mathlib.Core.List.{_++_, List, [], _∷_, List·Memᴰ·head}
 use Prim.Native.Nat.{ℕ}
 use native.Mathlib.Omega.{arith}
 use lib.ListN.{drop}
-use Rattle.bpa.specs.Plans.{Table}
+use Rattle.bpa.specs.Plans.{Table, all-below}
 use Rattle.bpa.specs.Norms.{norms, norm}
 use Rattle.bpa.proofs.Basics.Plans.{step-over, over-one, over-append, over-left, over-right, sum-one}
 use Rattle.bpa.proofs.Rounds.Equivalence.{bisimilar-equivalent, equivalent-append, equivalent-cancel-left, equivalent-cancel-right}
@@ -22,7 +23,7 @@ use Rattle.refusal.proofs.TableRefusals.{six-exact, seven-exact}
 use Rattle.image.specs.Image.{image-refusal, image-jobs, image-places, table-in}
 use Rattle.image.specs.Writing.{list-refusal, write-refusal, written}
 use Rattle.image.proofs.ListRefusal.{good-list}
-use Rattle.image.proofs.TableBytes.{bytes-of-image}
+use Rattle.image.proofs.TableBytes.{bytes-of-list, bytes-of-image}
 use Rattle.image.proofs.ImageBack as images
 use Rattle.image.proofs.TableBack as tables
 use Rattle.moves.proofs.NoSuchMove as nth
@@ -42,19 +43,19 @@ unfolding promised.Places-back promised.all-bytes
 places-back bs k = (images.image-writes bs (k .passed), images.image-back bs (k .passed) (k .bytes))
 
 -- the job count and the rules of the table are those that stand in the image
-module _ (bs : List ℕ) (h : image-refusal bs ≡ 0) where
+module _ (bs : List ℕ) (bytes : all-below 256 bs ≡ true) (h : image-refusal bs ≡ 0) where
   jobs-stand : image-jobs bs ≡ table-in bs .jobs
   unfolding table-in table-of
   jobs-stand = refl
 
   places-stand : image-places bs ≡ drop 1 (table-bytes (table-in bs))
-  places-stand = ap (drop 1) (sym (bytes-of-image bs (image-passes bs h .0)))
+  places-stand = ap (drop 1) (sym (bytes-of-image bs bytes (image-passes bs h .0)))
 
 pub image-back : promised.Image-back
-unfolding promised.Image-back promised.Places-back
+unfolding promised.Image-back promised.Places-back promised.all-bytes
 image-back bs k =
-    let j = jobs-stand bs (k .passed) in
-    let ps = places-stand bs (k .passed) in
+    let j = jobs-stand bs (k .bytes) (k .passed) in
+    let ps = places-stand bs (k .bytes) (k .passed) in
     (ap₂ write-refusal (sym j) (sym ps) ∙ places-back bs k .0, ap₂ written (sym j) (sym ps) ∙ places-back bs k .1)
 
 pub images-tell : promised.Images-tell
@@ -72,8 +73,7 @@ pub table-back : promised.Table-back
 unfolding promised.Table-back promised.all-bytes
 table-back n rs b h = (
   record { bytes = written-bytes n rs (good-list n rs (write-listed n rs h) .jobs) b; passed = tables.table-back n rs h },
-  bytes-of-image (written n rs) (image-passes (written n rs) (tables.table-back n rs h) .0)
-      ∙ ap₂ _∷_ (tables.table-jobs n rs h) (tables.table-places n rs h),
+  ap table-bytes (tables.table-held n rs (good-list n rs (write-listed n rs h))) ∙ bytes-of-list n rs (good-list n rs (write-listed n rs h)) b,
 )
 
 -- SOURCES OF TABLES

@@ -18,7 +18,7 @@ use Rattle.bpa.specs.Method.{keep-fitting, round, refine, final-base, first-of,
 use Rattle.bpa.proofs.Basics.Cases.{and-left, and-right, never-both}
 use Rattle.bpa.proofs.Norm.NormExact.{job-norm, job-without}
 use Rattle.bpa.proofs.Answers.{same-exact, form-exists}
-use Rattle.rules.specs.Places.{all-zero, rule-in, place-good, places-good, rules-in, rule-count, table-of}
+use Rattle.rules.specs.Places.{all-zero, move-in, rule-in, place-good, each-place, places-good, rules-in, rule-count, table-of}
 use Rattle.answer.specs.Refusals.{or-else}
 use Rattle.answer.proofs.RefusalChains.{neither, both-pass}
 use Rattle.refusal.specs.Refusals.{any-zero, any-above, norms-refusal, table-refusal, jobs-refusal, sum-refusal, plan-refusal, plans-refusal}
@@ -41,7 +41,7 @@ cases-pass : all-pass cases ≡ true
 unfolding all-pass passes has-form pair-passes equal-plans all-below job-moves moves sum-of all-known lesser best one-round rounds
     norms precedes lowering lower-by candidate itself expand replace grow first-difference turn judge judged answered all-answered matched
     fits holds pairs-of pairs-below first-base keep-fitting round refine final-base first-of least-pair prime-row prime-rows same
-    prime-form all-zero rule-in place-good places-good rules-in rule-count table-of any-zero any-above norms-refusal table-refusal or-else
+    prime-form all-zero move-in rule-in place-good each-place places-good rules-in rule-count table-of any-zero any-above norms-refusal table-refusal or-else
     jobs-refusal sum-refusal plan-refusal plans-refusal number-at byte-sum checksum block blocks-in rules-in-block block-places each-block
     length-good sum-good rules-fit head-of head-good places-of-block block-good layout-refusal places-from image-jobs image-places table-in
     image-refusal low-first blocks-for rules-for body written-block written-from written list-refusal write-refusal

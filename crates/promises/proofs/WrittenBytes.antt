@@ -4,22 +4,13 @@ use mathlib.Core.Bool.{true}
 use mathlib.Core.List.{List, [], _∷_, _++_}
 use Prim.Native.Nat.{ℕ, zero, suc, _*_, _-_, _/_, _%_, _≤_}
 use native.Mathlib.Omega.{arith}
-use lib.ListN.{take, drop, replicate, take-append-drop}
+use lib.ListN.{take, drop, replicate}
 use Rattle.area.specs.Numbers.{low-first}
-use Rattle.bpa.specs.Plans.{Table, all-below, over}
-use Rattle.bpa.proofs.Basics.Plans.{over-none, over-cons, over-append, over-left, over-right}
+use Rattle.bpa.specs.Plans.{all-below, over}
+use Rattle.bpa.proofs.Basics.Plans.{over-none, over-cons, over-append}
 use Rattle.image.specs.Image.{checksum}
+use Rattle.image.proofs.ByteRows.{bytes, byte-take, byte-drop}
 use Rattle.image.specs.Writing.{blocks-for, rules-for, body, written-block, written-from, written}
-
--- bytes are the jobs of a table of 256
-abbrev bytes : Table
-bytes = record { jobs = 256; rules = [] }
-
-byte-take : (k : ℕ) (xs : List ℕ) → over bytes xs ≡ true → over bytes (take k xs) ≡ true
-byte-take k xs h = over-left bytes (take k xs) (drop k xs) (rw take-append-drop h)
-
-byte-drop : (k : ℕ) (xs : List ℕ) → over bytes xs ≡ true → over bytes (drop k xs) ≡ true
-byte-drop k xs h = over-right bytes (take k xs) (drop k xs) (rw take-append-drop h)
 
 byte-zeros : (k : ℕ) → over bytes (replicate k 0) ≡ true
 byte-zeros zero = over-none bytes

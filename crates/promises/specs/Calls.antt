@@ -4,12 +4,13 @@ use mathlib.Core.Path.{_≡_}
 use mathlib.Core.Bool.{true}
 use mathlib.Core.List.{List, [], _∷_, List·Memᴰ}
 use mathlib.Core.Logic.{_↔_, _⊎_}
-use Prim.Native.Nat.{ℕ, _-_, _≤_, _<_}
+use Prim.Native.Nat.{ℕ, _+_, _*_, _-_, _≤_, _<_}
 use lib.IntN.{ℤ, pos}
 use lib.ListN.{length, getD, take, drop}
 use Rattle.bpa.specs.Plans.{Step, Runs, moves}
 use Rattle.bpa.specs.Norms.{Fewest}
 use Rattle.bpa.specs.Bisimilar.{Bisimilar, Lowest, Form}
+use Rattle.area.specs.Numbers.{number-at, numbers-in}
 use Rattle.image.specs.Image.{image-refusal, table-in}
 use Rattle.moves.specs.Moves.{move-bytes, first-rules}
 use Rattle.table.specs.CallRefusals.{one-plan}
@@ -28,7 +29,7 @@ Image-survives =
 -- what writing a table wrote, read again, is the table byte for byte
 unfoldable pub Table-survives : Type 0
 Table-survives =
-    (jobs : ℕ) (rs o o′ u u′ : List ℕ) (n : ℕ) (r : ℤ) → Written jobs rs o (pos n) o′ →
+    (jobs : ℕ) (rs o o′ u u′ : List ℕ) (n : ℕ) (r : ℤ) → all-bytes rs ≡ true → Written jobs rs o (pos n) o′ →
     Read (take n o′) u r u′ → length (jobs ∷ rs) ≤ length u →
     (r ≡ pos (length (jobs ∷ rs))) × (take (length (jobs ∷ rs)) u′ ≡ jobs ∷ rs)
 
@@ -36,26 +37,28 @@ Table-survives =
 unfoldable pub Norm-given : Type 0
 Norm-given = (bs p : List ℕ) (n : ℕ) → Normed bs p (pos n) → Fewest (table-in bs) p n
 
--- the moves written are a shortest run: they lead to the empty plan, and no run that does has fewer
+-- the moves written, two bytes each, are a shortest run: they lead to the empty plan, and no run that does has fewer
 unfoldable pub Run-written : Type 0
 Run-written =
-    (bs p o o′ : List ℕ) (n : ℕ) → Ran bs p o (pos n) o′ →
-    Runs (table-in bs) p (take n o′) [] × (length (take n o′) ≡ n) × Fewest (table-in bs) p n
+    (bs p o o′ : List ℕ) (n : ℕ) → all-bytes bs ≡ true → Ran bs p o (pos n) o′ →
+    Runs (table-in bs) p (numbers-in (take n o′)) [] × (length (take n o′) ≡ n)
+    × ((v : ℕ) × (n ≡ 2 * v) × Fewest (table-in bs) p v)
 
--- the call for the n-th move writes the n-th of the list of moves and answers 0 exactly if there is none; what it writes is a step
+-- the call for the n-th move writes the n-th of the list of moves and answers 0 exactly if there is none; what it writes is a step: its move in
+-- two bytes, then the remaining plan
 unfoldable pub Move-written : Type 0
 Move-written =
     (bs p o o′ : List ℕ) (i n : ℕ) → Moved bs p i o (pos n) o′ →
     (take n o′ ≡ move-bytes (moves (table-in bs) p) i)
     × ((n ≡ 0) ↔ ((p ≡ []) ⊎ (first-rules (table-in bs) p ≤ i)))
-    × (0 < n → (a : ℕ) × (q : List ℕ) × (take n o′ ≡ a ∷ q) × Step (table-in bs) p a q)
+    × (all-bytes bs ≡ true → 0 < n → Step (table-in bs) p (number-at 0 (take n o′)) (drop 2 (take n o′)))
 
 -- every step is written for some index, if the output area is long enough
 unfoldable pub Steps-written : Type 0
 Steps-written =
-    (bs p q : List ℕ) (a : ℕ) → one-plan bs p ≡ 0 → Step (table-in bs) p a q →
-    (i : ℕ) × ((o o′ : List ℕ) (r : ℤ) → length (a ∷ q) ≤ length o → Moved bs p i o r o′ →
-    (r ≡ pos (length (a ∷ q))) × (take (length (a ∷ q)) o′ ≡ a ∷ q))
+    (bs p q : List ℕ) (a : ℕ) → all-bytes bs ≡ true → one-plan bs p ≡ 0 → Step (table-in bs) p a q →
+    (i : ℕ) × ((o o′ : List ℕ) (r : ℤ) (n : ℕ) → n ≡ 2 + length q → n ≤ length o → Moved bs p i o r o′ →
+    (r ≡ pos n) × (number-at 0 (take n o′) ≡ a) × (drop 2 (take n o′) ≡ q))
 
 -- compare answers 1 exactly for bisimilar plans and 0 exactly for others, whatever the workspaces held
 unfoldable pub Compare-tells : Type 0

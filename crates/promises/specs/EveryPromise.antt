@@ -2,6 +2,7 @@
 -- Assumes nothing: this is a definition.
 use Rattle.promises.specs.Promises as promises
 use Rattle.promises.specs.Calls as calls
+use Rattle.promises.specs.BothAges as bothages
 use Rattle.promises.specs.Remainders as remainders
 use Rattle.promises.specs.WorkedCases as workedcases
 
@@ -11,6 +12,15 @@ pub record EveryPromise : Type 1 where
   pub places-back : promises.Places-back
   pub images-tell : promises.Images-tell
   pub table-back : promises.Table-back
+  -- IMAGES AND TABLES OF BOTH AGES
+  pub old-images-same : bothages.Old-images-same
+  pub old-lists-same : bothages.Old-lists-same
+  pub larger-meets-five : bothages.Larger-meets-five
+  pub larger-moves-meet-five : bothages.Larger-moves-meet-five
+  pub old-image-back : bothages.Old-image-back
+  pub old-table-back : bothages.Old-table-back
+  pub old-image-read : bothages.Old-image-read
+  pub old-table-written : bothages.Old-table-written
   -- SOURCES OF TABLES
   pub image-table : promises.Image-table
   pub list-table : promises.List-table

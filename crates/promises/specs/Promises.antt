@@ -11,6 +11,7 @@ use Rattle.bpa.specs.Plans.{Table, Move, all-below, over, HasRule, Step, moves}
 use Rattle.bpa.specs.Norms.{norm, Fewest, Endless}
 use Rattle.bpa.specs.Bisimilar.{Approx, Any-bisimulation, Bisimilar, Lowest, Form}
 use Rattle.bpa.specs.Method.{same, prime-form}
+use Rattle.area.specs.Numbers.{low-first}
 use Rattle.rules.specs.Places.{table-of, table-bytes}
 use Rattle.refusal.specs.Refusals.{table-refusal, plan-refusal, plans-refusal, Closed, Accepted}
 use Rattle.image.specs.Image.{layout-refusal, image-refusal, image-jobs, image-places, table-in}
@@ -129,11 +130,11 @@ Moves-exactly =
     (t : Table) (x : ℕ) (β : List ℕ) (a : ℕ) (q : List ℕ) →
     List·Memᴰ {A = Move} (record { move = a; rest = q }) (moves t (x ∷ β)) ↔ ((w : List ℕ) × HasRule t x a w × (q ≡ w ++ β))
 
--- each step is the n-th move for some n below the number of the first job's rules
+-- each step is the n-th move for some n below the number of the first job's rules: its move in two bytes, then the remaining plan
 unfoldable pub Steps-listed : Type 0
 Steps-listed =
     (t : Table) (p q : List ℕ) (a : ℕ) → Step t p a q →
-    (n : ℕ) × (n < first-rules t p) × (move-bytes (moves t p) n ≡ a ∷ q)
+    (n : ℕ) × (n < first-rules t p) × (move-bytes (moves t p) n ≡ low-first a ++ q)
 
 -- there is no n-th move exactly if the plan is empty, or n is not below the number of the first job's rules
 unfoldable pub No-such-move : Type 0

@@ -1,4 +1,5 @@
--- The worked tables of document 01 marked P, two of them from 000: one list of cases, what each means, and one test over them.
+-- The worked tables of document 01 marked P, two of them from 000, and one whose moves need two bytes: one list of cases, what each means, and one
+-- test over them.
 -- The test computes on the rules of a table; the meaning is of the image that is written from them. Assumes nothing: these are
 -- definitions.
 use mathlib.Core.Path.{_≡_}
@@ -131,6 +132,14 @@ back-to-itself = record { jobs = 1; rules = to-one 0 97 0 }
 abbrev pub back-or-done : Worked
 back-or-done = record { jobs = 1; rules = to-one 0 97 0 ++ to-none 0 97 }
 
+-- moves of two bytes: 1,000 is 232 + 256 * 3, and 232 has the same low byte
+abbrev pub larger-moves : Worked
+larger-moves =
+    record {
+      jobs = 3;
+      rules = (0 ∷ 232 ∷ 0 ∷ 0 ∷ 0 ∷ 0 ∷ 0 ∷ 3 ∷ []) ++ to-none 1 232 ++ (2 ∷ 232 ∷ 0 ∷ 0 ∷ 0 ∷ 0 ∷ 0 ∷ 3 ∷ []);
+    }
+
 abbrev pub cases : List Case
 cases =
     refusal-is table-t 0 ∷ byte-is table-t 510 152 ∷ byte-is table-t 511 1 ∷ norms-are table-t (1 ∷ 2 ∷ 3 ∷ 2 ∷ []) ∷
@@ -145,7 +154,9 @@ cases =
     are-same twice-at-one (0 ∷ []) (1 ∷ []) ∷ form-is twice-at-one (1 ∷ []) (0 ∷ []) ∷
     are-same twice-at-zero (0 ∷ []) (1 ∷ []) ∷ form-is twice-at-zero (1 ∷ []) (0 ∷ []) ∷
     refusal-is back-to-itself 6 ∷ norms-are back-to-itself (0 ∷ []) ∷
-    refusal-is back-or-done 0 ∷ norms-are back-or-done (1 ∷ []) ∷ []
+    refusal-is back-or-done 0 ∷ norms-are back-or-done (1 ∷ []) ∷
+    refusal-is larger-moves 0 ∷ byte-is larger-moves 9 3 ∷ are-apart larger-moves (0 ∷ []) (1 ∷ []) ∷
+    are-same larger-moves (0 ∷ []) (2 ∷ []) ∷ form-is larger-moves (2 ∷ []) (0 ∷ []) ∷ []
 
 -- EVERY CASE IS TRUE
 unfoldable pub Cases-hold : Type 0

@@ -24,7 +24,7 @@ fn bucket(place: &[u8]) -> usize
     requires { ⌜ length (now place) ≡ 8 ⌝ }
     ensures { λ r. ⌜ r < 64 ⌝ }
 {
-    let head = wide(place[0]) + 5 * wide(place[1]) + 7 * wide(place[2]);
+    let head = wide(place[0]) + 5 * (wide(place[1]) + wide(place[7])) + 7 * wide(place[2]);
     let front = 11 * wide(place[3]) + 23 * wide(place[4]);
     let back = 37 * wide(place[5]) + 47 * wide(place[6]);
     (head + front + back) % 64

@@ -1,6 +1,6 @@
 -- The rules of a table by their positions in the list, and what a good list says of each. Assumes nothing.
 use mathlib.Core.Path.{_≡_, refl, sym, ap, _∙_, subst}
-use mathlib.Core.Bool.{true, _&&_, and-eq-true-iff}
+use mathlib.Core.Bool.{Bool, true, _&&_, and-eq-true-iff}
 use mathlib.Core.List.{List, [], _∷_, List·Memᴰ, List·Memᴰ·head, List·Memᴰ·tail, List·Memᴰ·cases-cons, List·Memᴰ·not-nil}
 use mathlib.Core.Logic.{⊎-elim}
 use Prim.Native.Nat.{ℕ, zero, suc, _+_, _*_, _-_, _≤_, _<_}
@@ -11,7 +11,7 @@ use lib.ListN.{length, getD, take, drop}
 use lib.Seq.{drop-drop}
 use borrow.Author.Tests.{ltb-true, leb-true}
 use Rattle.bpa.specs.Plans.{Rule, all-below, HasRule, over}
-use Rattle.rules.specs.Places.{rule-in, place-good, places-good, rules-in, rule-at, rule-count, table-of}
+use Rattle.rules.specs.Places.{rule-in, place-good, each-place, places-good, rules-in, rule-at, rule-count, table-of}
 use Rattle.rules.specs.Lists.{GoodList, HasPlace, GoodRule}
 use Rattle.rules.proofs.PlaceLaws.{byte-at, after-length}
 
@@ -20,7 +20,7 @@ unfolding rules-in
 length-rules-in zero xs = refl
 length-rules-in (suc k) xs = ap suc (length-rules-in k (drop 8 xs))
 
-place-next : (xs : List ℕ) (i : ℕ) → drop (8 * i) (drop 8 xs) ≡ drop (8 * suc i) xs
+pub place-next : (xs : List ℕ) (i : ℕ) → drop (8 * i) (drop 8 xs) ≡ drop (8 * suc i) xs
 place-next xs i =
     let e : 8 + 8 * i ≡ 8 * suc i = omega arith in
     drop-drop (8 * i) 8 xs ∙ ap (λ (m : ℕ). drop m xs) e
@@ -58,14 +58,18 @@ rules-from-end rs i h =
     let e : rule-count rs - i ≡ 0 = omega arith in
     ap (λ (k : ℕ). rules-in k (drop (8 * i) rs)) e
 
--- every place of a good row is good
-good-place : (k n : ℕ) (xs : List ℕ) (i : ℕ) → places-good k n xs ≡ true → i < k → place-good n (take 8 (drop (8 * i) xs)) ≡ true
+-- what is asked of each place of a row holds of one
+pub each-at : (f : List ℕ → Bool) (k : ℕ) (xs : List ℕ) (i : ℕ) → each-place f k xs ≡ true → i < k → f (take 8 (drop (8 * i) xs)) ≡ true
+unfolding each-place
+each-at f zero xs i g h = absurd (omega arith)
+each-at f (suc k) xs zero g h = (and-eq-true-iff (f (take 8 xs)) (each-place f k (drop 8 xs))) .0 g .0
+each-at f (suc k) xs (suc i) g h =
+    subst (λ (l : List ℕ). f (take 8 l) ≡ true) (place-next xs i)
+    (each-at f k (drop 8 xs) i ((and-eq-true-iff (f (take 8 xs)) (each-place f k (drop 8 xs))) .0 g .1) (omega arith))
+
+pub good-place : (k n : ℕ) (xs : List ℕ) (i : ℕ) → places-good k n xs ≡ true → i < k → place-good n (take 8 (drop (8 * i) xs)) ≡ true
 unfolding places-good
-good-place zero n xs i g h = absurd (omega arith)
-good-place (suc k) n xs zero g h = (and-eq-true-iff (place-good n (take 8 xs)) (places-good k n (drop 8 xs))) .0 g .0
-good-place (suc k) n xs (suc i) g h =
-    subst (λ (l : List ℕ). place-good n (take 8 l) ≡ true) (place-next xs i)
-    (good-place k n (drop 8 xs) i ((and-eq-true-iff (place-good n (take 8 xs)) (places-good k n (drop 8 xs))) .0 g .1) (omega arith))
+good-place k n xs i g h = each-at (place-good n) k xs i g h
 
 module _ (n : ℕ) (rs : List ℕ) (good : GoodList n rs) (i : ℕ) (h : i < rule-count rs) where
   parts : ((ltb (rule-at rs i .job) n ≡ true) × (leb (getD (take 8 (drop (8 * i) rs)) 2 0) 4 ≡ true)) × (all-below n (rule-at rs i .after) ≡ true)

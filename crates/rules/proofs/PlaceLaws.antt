@@ -1,11 +1,11 @@
 -- The parts of the rule at a position, as bytes of the list. Assumes nothing.
-use mathlib.Core.Path.{_≡_, refl, ap, _∙_}
+use mathlib.Core.Path.{_≡_, refl, ap, ap₂, _∙_}
 use mathlib.Core.List.{List, [], _∷_}
-use Prim.Native.Nat.{ℕ, zero, suc, _+_, _*_, _≤_, _<_}
+use Prim.Native.Nat.{ℕ, zero, suc, _+_, _*_, _/_, _%_, _≤_, _<_}
 use native.Mathlib.Omega.{arith}
 use lib.ListN.{length, getD, take, drop, length-drop}
 use lib.Seq.{drop-drop, getD-take, getD-drop, length-take-le, take-take}
-use Rattle.rules.specs.Places.{rule-in, rule-at, rule-count}
+use Rattle.rules.specs.Places.{move-in, rule-in, rule-at, rule-count}
 
 -- a rule that is there is whole
 pub room : (rs : List ℕ) (i : ℕ) → i < rule-count rs → 8 * i + 8 ≤ length rs
@@ -21,9 +21,17 @@ job-at rs i =
     let e : 8 * i + 0 ≡ 8 * i = omega arith in
     byte-at rs i 0 (omega arith) ∙ ap (λ (k : ℕ). getD rs k 0) e
 
-pub move-at : (rs : List ℕ) (i : ℕ) → rule-at rs i .move ≡ getD rs (8 * i + 1) 0
-unfolding rule-at rule-in
-move-at rs i = byte-at rs i 1 (omega arith)
+pub move-at : (rs : List ℕ) (i : ℕ) → rule-at rs i .move ≡ getD rs (8 * i + 1) 0 + 256 * getD rs (8 * i + 7) 0
+unfolding rule-at rule-in move-in
+move-at rs i = ap₂ (λ (low high : ℕ). low + 256 * high) (byte-at rs i 1 (omega arith)) (byte-at rs i 7 (omega arith))
+
+-- its two bytes
+module _ (rs : List ℕ) (i : ℕ) (low : getD rs (8 * i + 1) 0 < 256) where
+  pub low-at : rule-at rs i .move % 256 ≡ getD rs (8 * i + 1) 0
+  low-at = omega (arith, move-at rs i)
+
+  pub high-at : rule-at rs i .move / 256 ≡ getD rs (8 * i + 7) 0
+  high-at = omega (arith, move-at rs i)
 
 -- a part of the front is a part of the whole
 part-of-front : (m k n : ℕ) (l : List ℕ) → k + m ≤ n → take m (drop k (take n l)) ≡ take m (drop k l)

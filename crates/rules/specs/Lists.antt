@@ -27,6 +27,11 @@ pub record GoodRule (n : ℕ) (r : Rule) : Type 0 where
   pub few : length (r .after) ≤ 4
   pub after : all-below n (r .after) ≡ true
 
+-- a rule's move, a number of two bytes
+pub record IsMove (part r : ℕ) : Type 0 where
+  pub is : r ≡ part
+  pub small : r < 65536
+
 -- how many jobs stand after a rule
 pub record IsCount (part r : ℕ) : Type 0 where
   pub is : r ≡ part

@@ -1,7 +1,7 @@
 -- Places: a rule as 8 bytes, and a list of them as a table. Assumes nothing: these are definitions.
 use mathlib.Core.Bool.{Bool, true, _&&_}
 use mathlib.Core.List.{List, [], _∷_, _++_}
-use Prim.Native.Nat.{ℕ, zero, suc, _+_, _*_, _-_, _/_}
+use Prim.Native.Nat.{ℕ, zero, suc, _+_, _*_, _-_, _/_, _%_}
 use lib.Dec.{ltb, leb, eqb}
 use lib.ListN.{length, getD, take, drop, replicate}
 use Rattle.bpa.specs.Plans.{Rule, Table, all-below}
@@ -10,20 +10,28 @@ unfoldable pub all-zero : List ℕ → Bool
 all-zero [] = true
 all-zero (b ∷ bs) = eqb b 0 && all-zero bs
 
--- A place: job, move, number of jobs after, four bytes for those jobs, one zero byte. Its rule, if it is good:
-unfoldable pub rule-in : (place : List ℕ) → Rule
-rule-in xs = record { job = getD xs 0 0; move = getD xs 1 0; after = take (getD xs 2 0) (drop 3 xs) }
+-- A place: job, low byte of the move, number of jobs after, four bytes for those jobs, high byte of the move.
+-- THE MOVE of a place: no other definition of today's format reads one
+unfoldable pub move-in : (place : List ℕ) → ℕ
+move-in xs = getD xs 1 0 + 256 * getD xs 7 0
 
--- jobs are below the count, at most four stand after, and zeros stand where nothing is named
+-- its rule, if it is good
+unfoldable pub rule-in : (place : List ℕ) → Rule
+rule-in xs = record { job = getD xs 0 0; move = move-in xs; after = take (getD xs 2 0) (drop 3 xs) }
+
+-- jobs are below the count, at most four stand after, and zeros stand where no job is named
 unfoldable pub place-good : (jobs : ℕ) → (place : List ℕ) → Bool
 place-good n xs =
     (ltb (getD xs 0 0) n && leb (getD xs 2 0) 4)
-    && (all-below n (take (getD xs 2 0) (drop 3 xs)) && all-zero (drop (3 + getD xs 2 0) (take 8 xs)))
+    && (all-below n (take (getD xs 2 0) (drop 3 xs)) && all-zero (drop (3 + getD xs 2 0) (take 7 xs)))
 
--- so many places in a row
+-- so many places in a row, each with what is asked of one
+unfoldable pub each-place : (check : List ℕ → Bool) → (left : ℕ) → List ℕ → Bool
+each-place f zero xs = true
+each-place f (suc k) xs = f (take 8 xs) && each-place f k (drop 8 xs)
+
 unfoldable pub places-good : (left : ℕ) → (jobs : ℕ) → List ℕ → Bool
-places-good zero n xs = true
-places-good (suc k) n xs = place-good n (take 8 xs) && places-good k n (drop 8 xs)
+places-good k n xs = each-place (place-good n) k xs
 
 unfoldable pub rules-in : (left : ℕ) → List ℕ → List Rule
 rules-in zero xs = []
@@ -42,7 +50,8 @@ table-of n rs = record { jobs = n; rules = rules-in (rule-count rs) rs }
 
 -- a table as bytes: the job count, then each rule as a place
 unfoldable pub place-of : Rule → List ℕ
-place-of r = r .job ∷ r .move ∷ length (r .after) ∷ (r .after ++ replicate (5 - length (r .after)) 0)
+place-of r =
+    r .job ∷ (r .move % 256) ∷ length (r .after) ∷ (r .after ++ (replicate (4 - length (r .after)) 0 ++ (r .move / 256 ∷ [])))
 
 unfoldable pub places-of : List Rule → List ℕ
 places-of [] = []

@@ -1,12 +1,15 @@
 // Rules as 8 bytes each: one function for each part of a rule.
+use area::number;
 use area::wide;
 ghost use mathlib.Core.Path.{_≡_};
-ghost use Prim.Native.Nat.{_<_};
+ghost use mathlib.Core.Bool.{not};
+ghost use Prim.Native.Nat.{_/_, _%_, _<_};
+ghost use lib.Dec.{eqb};
 ghost use lib.ListN.{length};
 ghost use Rattle.area.specs.Areas.{IsByte};
 ghost use Rattle.bpa.specs.Plans.{all-below};
 ghost use Rattle.rules.specs.Places.{rule-at, rule-count};
-ghost use Rattle.rules.specs.Lists.{HasPlace, IsCount};
+ghost use Rattle.rules.specs.Lists.{HasPlace, IsMove, IsCount};
 
 // How many rules a list holds.
 pub fn rule_total(rules: &[u8]) -> usize
@@ -23,12 +26,29 @@ pub fn rule_job(rules: &[u8], i: usize) -> usize
     wide(rules[8 * i])
 }
 
-// The move that the rule makes. No other function reads a move.
+// The move that the rule makes: its low byte is the second of the place, its high byte the last. Outside this crate no
+// function reads a move.
 pub fn rule_move(rules: &[u8], i: usize) -> u32
     requires { ⌜ i < rule-count (now rules) ⌝ }
-    ensures { λ r. ⌜ IsByte (rule-at (now (rules .entry)) i .move) r ⌝ }
+    ensures { λ r. ⌜ IsMove (rule-at (now (rules .entry)) i .move) r ⌝ }
 {
-    wide(rules[8 * i + 1]) as u32
+    number(rules[8 * i + 1], rules[8 * i + 7]) as u32
+}
+
+// Whether the moves of two rules differ in their low bytes, and whether in their high ones: apart, because most moves that differ do so in the low
+// byte, and a caller may have other tests to make before the second.
+pub fn low_differs(rules: &[u8], i: usize, k: usize) -> bool
+    requires { ⌜ (i < rule-count (now rules)) × (k < rule-count (now rules)) ⌝ }
+    ensures { λ r. ⌜ r ≡ not (eqb (rule-at (now (rules .entry)) i .move % 256) (rule-at (now (rules .entry)) k .move % 256)) ⌝ }
+{
+    rules[8 * i + 1] != rules[8 * k + 1]
+}
+
+pub fn high_differs(rules: &[u8], i: usize, k: usize) -> bool
+    requires { ⌜ (i < rule-count (now rules)) × (k < rule-count (now rules)) ⌝ }
+    ensures { λ r. ⌜ r ≡ not (eqb (rule-at (now (rules .entry)) i .move / 256) (rule-at (now (rules .entry)) k .move / 256)) ⌝ }
+{
+    rules[8 * i + 7] != rules[8 * k + 7]
 }
 
 // How many jobs stand after the move.

@@ -2,7 +2,7 @@
 use mathlib.Core.Path.{_≡_, sym, ap, ap₂, _∙_, subst}
 use mathlib.Core.Bool.{true}
 use mathlib.Core.List.{List, [], _∷_}
-use Prim.Native.Nat.{ℕ, _+_, _≤_, _<_}
+use Prim.Native.Nat.{ℕ, _+_, _*_, _≤_, _<_}
 use native.Mathlib.Numerals.{add-one}
 use native.Mathlib.Omega.{arith}
 use lib.IntN.{ℤ, pos, negsuc}
@@ -11,6 +11,8 @@ use lib.Seq.{drop-cons}
 use Rattle.bpa.specs.Plans.{Table, over}
 use Rattle.bpa.specs.Norms.{sum-of, norms, norm, Good}
 use Rattle.bpa.proofs.Norm.NormFewest.{norm-fewest}
+use Rattle.area.specs.Numbers.{all-low-first}
+use Rattle.area.proofs.Numbers.{all-length}
 use Rattle.answer.proofs.Answers.{too-short, written}
 use Rattle.runs.specs.Runs.{Written, WritesRun}
 use Rattle.runs.proofs.RunLaws.{written-more, written-waiting}
@@ -29,7 +31,7 @@ module _ (t : Table) (p o : List ℕ) where
       left = subst (λ (q : List ℕ). Written t p 0 o q to out) head a
 
       -- there is room for the run of the next job
-      pub plan-room : norm t p ≤ length o → to + getD (norms t) x 0 ≤ length o
+      pub plan-room : 2 * norm t p ≤ length o → to + 2 * getD (norms t) x 0 ≤ length o
       unfolding norm sum-of
       plan-room l = omega (arith, left .next, left .falls)
 
@@ -39,17 +41,18 @@ module _ (t : Table) (p o : List ℕ) where
           (written-waiting t (drop (k + 1) p) (x ∷ []) [] to r out out′ b)
 
   -- the two answers
-  pub no-room : Good t (norms t) → over t p ≡ true → length o < norm t p → WritesRun t p o (negsuc 9) o
+  pub no-room : Good t (norms t) → over t p ≡ true → length o < 2 * norm t p → WritesRun t p o (negsuc 9) o
   no-room g v h =
       let (run, runs, count) = norm-fewest t g p v .0 in
-      record { run = run; shortest = record { runs = runs; count = count }; written = too-short run o (omega arith) }
+      record { run = run; shortest = record { runs = runs; count = count }; written = too-short (all-low-first run) o (omega (arith, all-length run)) }
 
-  pub whole-run : (r : ℤ) (n : ℕ) (o′ : List ℕ) → norm t p ≤ length o → Written t p 0 o [] n o′ → r ≡ pos n → WritesRun t p o r o′
+  pub whole-run : (r : ℤ) (n : ℕ) (o′ : List ℕ) → 2 * norm t p ≤ length o → Written t p 0 o [] n o′ → r ≡ pos n → WritesRun t p o r o′
   unfolding norm sum-of
   whole-run r n o′ h a e =
       let whole : length (a .run) ≡ norm t p = omega (arith, a .falls) in
+      let bytes = all-length (a .run) in
       record {
         run = a .run;
         shortest = record { runs = a .runs; count = whole };
-        written = written (a .run) o (omega arith) (e ∙ ap pos (a .next ∙ omega arith)) (a .output);
+        written = written (all-low-first (a .run)) o (omega (arith, bytes)) (e ∙ ap pos (a .next ∙ omega (arith, bytes))) (a .output);
       }

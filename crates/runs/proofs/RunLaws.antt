@@ -1,14 +1,16 @@
 -- Moves written one after the other lead from plan to plan. Assumes nothing.
-use mathlib.Core.Path.{_≡_, refl, sym, ap₂, _∙_}
+use mathlib.Core.Path.{_≡_, refl, sym, ap, ap₂, _∙_}
 use mathlib.Core.List.{List, [], _∷_, _++_}
-use Prim.Native.Nat.{ℕ, suc, _+_, _≤_, _<_}
+use Prim.Native.Nat.{ℕ, suc, _+_, _≤_}
 use native.Mathlib.Omega.{arith}
-use lib.ListN.{length, getD, set, length-append}
+use lib.ListN.{length, getD, length-append}
 use Rattle.bpa.specs.Plans.{Table, HasRule, Runs, empty-run, longer-run}
 use Rattle.bpa.specs.Norms.{sum-of, norms, norm}
 use Rattle.bpa.proofs.Basics.Plans.{sum-append, step-append}
 use Rattle.area.specs.Areas.{put}
-use Rattle.area.proofs.PutLaws.{put-none, put-one, put-put}
+use Rattle.area.specs.Numbers.{low-first, all-low-first}
+use Rattle.area.proofs.Numbers.{all-append, all-length}
+use Rattle.area.proofs.PutLaws.{put-none, put-put}
 use Rattle.runs.specs.Runs.{Written}
 
 module _ (t : Table) where
@@ -23,6 +25,7 @@ module _ (t : Table) where
   runs-waiting w (longer-run p q a more end s r) = longer-run (p ++ w) (q ++ w) a more (end ++ w) (step-append t p q w a s) (runs-waiting w r)
 
   pub written-none : (p : List ℕ) (i : ℕ) (o : List ℕ) → Written t p i o p i o
+  unfolding all-low-first
   written-none p i o = record { run = []; runs = empty-run p; falls = omega arith; next = omega arith; output = sym (put-none i o) }
 
   pub written-more : (p q r : List ℕ) (i j k : ℕ) (o o′ o″ : List ℕ) → i ≤ length o → Written t p i o q j o′ → Written t q j o′ r k o″ → Written t p i o r k o″
@@ -31,7 +34,10 @@ module _ (t : Table) where
     runs = runs-append (a .runs) (b .runs);
     falls = omega (arith, length-append (a .run) (b .run), a .falls, b .falls);
     next = omega (arith, length-append (a .run) (b .run), a .next, b .next);
-    output = b .output ∙ ap₂ (λ (x : ℕ) (l : List ℕ). put x (b .run) l) (a .next) (a .output) ∙ put-put i (a .run) (b .run) o h;
+    output =
+        let e : j ≡ i + length (all-low-first (a .run)) = omega (arith, a .next, all-length (a .run)) in
+        b .output ∙ ap₂ (λ (x : ℕ) (l : List ℕ). put x (all-low-first (b .run)) l) e (a .output)
+        ∙ put-put i (all-low-first (a .run)) (all-low-first (b .run)) o h ∙ ap (λ l. put i l o) (sym (all-append (a .run) (b .run)));
   }
 
   pub written-waiting : (w p q : List ℕ) (i j : ℕ) (o o′ : List ℕ) → Written t p i o q j o′ → Written t (p ++ w) i o (q ++ w) j o′
@@ -46,12 +52,12 @@ module _ (t : Table) where
 
   -- one move by a rule that lowers the norm
   pub written-move : (x a : ℕ) (w rest : List ℕ) (i : ℕ) (o : List ℕ) → HasRule t x a w → getD (norms t) x 0 ≡ suc (sum-of (norms t) w) →
-      i < length o → Written t (x ∷ rest) i o (w ++ rest) (i + 1) (set o i a)
-  unfolding norm sum-of
-  written-move x a w rest i o r e h = record {
+      Written t (x ∷ rest) i o (w ++ rest) (i + 2) (put i (low-first a) o)
+  unfolding norm sum-of all-low-first low-first
+  written-move x a w rest i o r e = record {
     run = a ∷ [];
     runs = longer-run (x ∷ rest) (w ++ rest) a [] (w ++ rest) (w, r, refl) (empty-run (w ++ rest));
     falls = omega (arith, sum-append (norms t) w rest);
     next = omega arith;
-    output = sym (put-one i a o h);
+    output = refl;
   }

@@ -2,7 +2,7 @@
 use mathlib.Core.Path.{_≡_, refl, sym, ap, _∙_, subst}
 use mathlib.Core.Bool.{true}
 use mathlib.Core.List.{List, [], _∷_, _++_}
-use Prim.Native.Nat.{ℕ, suc, _+_, _-_, _≤_, _<_}
+use Prim.Native.Nat.{ℕ, suc, _+_, _*_, _-_, _≤_, _<_}
 use native.Mathlib.Numerals.{add-one}
 use native.Mathlib.Omega.{arith}
 use lib.ListN.{length, getD, drop, set, length-append, length-drop, length-set, drop-of-length-le}
@@ -13,6 +13,7 @@ use Rattle.bpa.proofs.Basics.Plans.{over-one, over-head, over-tail, over-append
 use Rattle.rules.specs.Places.{rule-at, table-of}
 use Rattle.rules.proofs.ListLaws.{rule-of}
 use Rattle.area.specs.Areas.{put}
+use Rattle.area.specs.Numbers.{low-first}
 use Rattle.area.proofs.PutLaws.{drop-put}
 use Rattle.runs.specs.Runs.{Lowers, Chosen, Written}
 use Rattle.runs.proofs.RunLaws.{written-none, written-more, written-move}
@@ -52,7 +53,7 @@ module _ (n : ℕ) (rs low : List ℕ) (c : Chosen n rs low) (job at : ℕ) (sta
         let e : drop top stack ≡ [] = let l : length stack ≤ top = omega (arith, r .size) in drop-of-length-le stack l in
         subst (λ (p : List ℕ). Written (table-of n rs) (job ∷ []) at start p to out) e (r .written)
 
-    module _ (room : at + getD (norms (table-of n rs)) job 0 ≤ length start) (h : top < 512) where
+    module _ (room : at + 2 * getD (norms (table-of n rs)) job 0 ≤ length start) (h : top < 512) where
       -- the first job, and those behind it
       head : drop top stack ≡ getD stack top 0 ∷ drop (top + 1) stack
       head = drop-cons stack top 0 (omega (arith, r .size)) ∙ ap (λ (k : ℕ). getD stack top 0 ∷ drop k stack) (sym (add-one top))
@@ -64,12 +65,12 @@ module _ (n : ℕ) (rs low : List ℕ) (c : Chosen n rs low) (job at : ℕ) (sta
       unfolding table-of
       next-below = over-head (table-of n rs) (getD stack top 0) (drop (top + 1) stack) known
 
-      -- the norm of the jobs on the stack is what is left to be written
+      -- twice the norm of the jobs on the stack is what is left to be written
       left : Written (table-of n rs) (job ∷ []) at start (getD stack top 0 ∷ drop (top + 1) stack) to out
       left = subst (λ (p : List ℕ). Written (table-of n rs) (job ∷ []) at start p to out) head (r .written)
 
-      sums : to + (getD (norms (table-of n rs)) (getD stack top 0) 0 + sum-of (norms (table-of n rs)) (drop (top + 1) stack))
-          ≡ at + getD (norms (table-of n rs)) job 0
+      sums : to + 2 * (getD (norms (table-of n rs)) (getD stack top 0) 0 + sum-of (norms (table-of n rs)) (drop (top + 1) stack))
+          ≡ at + 2 * getD (norms (table-of n rs)) job 0
       unfolding norm sum-of
       sums = omega (arith, left .next, left .falls, sum-one (norms (table-of n rs)) job)
 
@@ -77,10 +78,10 @@ module _ (n : ℕ) (rs low : List ℕ) (c : Chosen n rs low) (job at : ℕ) (sta
       unfolding table-of
       positive = norm-positive (table-of n rs) (norms (table-of n rs)) (c .good) (getD stack top 0) next-below
 
-      pub to-below : to < at + getD (norms (table-of n rs)) job 0
+      pub to-below : to + 1 < at + 2 * getD (norms (table-of n rs)) job 0
       to-below = omega (arith, sums, positive)
 
-      pub out-room : to < length out
+      pub out-room : to + 1 < length out
       out-room = omega (arith, to-below, r .same)
 
       choice : Lowers rs (norms (table-of n rs)) (getD stack top 0) (getD low (getD stack top 0) 0)
@@ -119,10 +120,10 @@ module _ (n : ℕ) (rs low : List ℕ) (c : Chosen n rs low) (job at : ℕ) (sta
               c .few job,
             )
 
-        pub running-more : (a : ℕ) (stack′ : List ℕ) → a ≡ rule-at rs (getD low (getD stack top 0) 0) .move →
-            stack′ ≡ put (top + 1 - length w) w stack → length stack′ ≡ 512 →
-            Running (table-of n rs) job at start stack′ (top + 1 - length w) (to + 1) (set out to a)
-        running-more a stack′ e f l =
+        pub running-more : (a : ℕ) (stack′ out′ : List ℕ) → a ≡ rule-at rs (getD low (getD stack top 0) 0) .move →
+            stack′ ≡ put (top + 1 - length w) w stack → length stack′ ≡ 512 → out′ ≡ put to (low-first a) out → length out′ ≡ length out →
+            Running (table-of n rs) job at start stack′ (top + 1 - length w) (to + 2) out′
+        running-more a stack′ out′ e f l g k′ =
             let t = table-of n rs in
             let rest = drop (top + 1) stack in
             let k : top + 1 - length w + length w ≡ top + 1 = omega (arith, after-fits) in
@@ -134,8 +135,9 @@ module _ (n : ℕ) (rs low : List ℕ) (c : Chosen n rs low) (job at : ℕ) (sta
               size = l;
               place = omega (arith, after-fits);
               jobs = subst (λ (p : List ℕ). over t p ≡ true) (sym here) rest-known;
-              same = length-set out to a ∙ r .same;
-              written = subst (λ (p : List ℕ). Written t (job ∷ []) at start p (to + 1) (set out to a)) (sym here)
-                  (written-more t (job ∷ []) (getD stack top 0 ∷ rest) (w ++ rest) at to (to + 1) start out (set out to a) (omega arith) left
-                  (written-move t (getD stack top 0) a w rest to out fire falls out-room));
+              same = k′ ∙ r .same;
+              written = subst (λ (p : List ℕ). Written t (job ∷ []) at start p (to + 2) out′) (sym here)
+                  (written-more t (job ∷ []) (getD stack top 0 ∷ rest) (w ++ rest) at to (to + 2) start out out′ (omega arith) left
+                  (subst (Written t (getD stack top 0 ∷ rest) to out (w ++ rest) (to + 2)) (sym g)
+                  (written-move t (getD stack top 0) a w rest to out fire falls)));
             }

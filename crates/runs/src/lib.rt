@@ -2,7 +2,7 @@
 ghost use mathlib.Core.Path.{_≡_};
 ghost use mathlib.Core.Bool.{true};
 ghost use mathlib.Core.List.{[], _∷_};
-ghost use Prim.Native.Nat.{_+_, _≤_, _<_};
+ghost use Prim.Native.Nat.{_+_, _*_, _≤_, _<_};
 ghost use lib.ListN.{length, getD};
 ghost use Rattle.bpa.specs.Plans.{over};
 ghost use Rattle.bpa.specs.Norms.{norms, norm};
@@ -47,7 +47,7 @@ fn choices(jobs: usize, rules: &[u8], norms: &[u16; 24]) -> [u8; 24]
     low
 }
 
-// Writes a run from a job to its end. The jobs still to be run stand at the end of a stack: they are no more than their norm.
+// Writes a run from a job to its end, two bytes a move. The jobs still to be run stand at the end of a stack: they are no more than their norm.
 fn run_job(
     jobs: usize,
     rules: &[u8],
@@ -58,7 +58,7 @@ fn run_job(
 ) -> usize
     requires { ⌜ Chosen jobs (now rules) (now low) ⌝ }
     requires { ⌜ job < jobs ⌝ }
-    requires { ⌜ at + getD (norms (table-of jobs (now rules))) job 0 ≤ length (now out) ⌝ }
+    requires { ⌜ at + 2 * getD (norms (table-of jobs (now rules))) job 0 ≤ length (now out) ⌝ }
     ensures { λ r. ⌜ Written (table-of jobs (now (rules .entry))) (job ∷ []) at (now (out .entry)) [] r (now (out .exit)) ⌝ }
 {
     let mut stack = [0u8; 512];
@@ -67,8 +67,8 @@ fn run_job(
     let mut to = at;
     while top < 512 {
         let rule = area::wide(low[area::wide(stack[top])]);
-        out[to] = rules::rule_move(rules, rule) as u8;
-        to += 1;
+        area::put_number(rules::rule_move(rules, rule) as usize, to, out);
+        to += 2;
         let after = rules::rule_after(rules, rule);
         top = top + 1 - after.len();
         area::put(&mut stack, top, after);
@@ -80,7 +80,7 @@ fn run_job(
 fn run_plan(jobs: usize, rules: &[u8], low: &[u8; 24], plan: &[u8], out: &mut [u8]) -> usize
     requires { ⌜ Chosen jobs (now rules) (now low) ⌝ }
     requires { ⌜ over (table-of jobs (now rules)) (now plan) ≡ true ⌝ }
-    requires { ⌜ norm (table-of jobs (now rules)) (now plan) ≤ length (now out) ⌝ }
+    requires { ⌜ 2 * norm (table-of jobs (now rules)) (now plan) ≤ length (now out) ⌝ }
     ensures { λ r. ⌜ Written (table-of jobs (now (rules .entry))) (now (plan .entry)) 0 (now (out .entry)) [] r (now (out .exit)) ⌝ }
 {
     let mut to = 0;
@@ -93,7 +93,7 @@ fn run_plan(jobs: usize, rules: &[u8], low: &[u8; 24], plan: &[u8], out: &mut [u
     to
 }
 
-// A shortest run of an accepted plan: its moves, or refusal 10.
+// A shortest run of an accepted plan: its moves, two bytes each, or refusal 10.
 pub fn shortest_run(
     jobs: usize,
     rules: &[u8],
@@ -106,7 +106,7 @@ pub fn shortest_run(
     requires { ⌜ norm (table-of jobs (now rules)) (now plan) ≤ 4096 ⌝ }
     ensures { λ r. ⌜ WritesRun (table-of jobs (now (rules .entry))) (now (plan .entry)) (now (out .entry)) r (now (out .exit)) ⌝ }
 {
-    let need = norm::capped_sum(norms, plan) as usize;
+    let need = 2 * (norm::capped_sum(norms, plan) as usize);
     if out.len() < need {
         return -10;
     }

@@ -43,8 +43,8 @@ pub const RULE_BYTES: usize = 8;
 pub const BLOCK_BYTES: usize = 512;
 pub const RULE_LIST_MAX: usize = 2016;
 pub const READ_MAX: usize = 2017;
-pub const RUN_MAX: usize = 4096;
-pub const MOVE_MAX: usize = 4100;
+pub const RUN_MAX: usize = 8192;
+pub const MOVE_MAX: usize = 4101;
 pub const FORM_MAX: usize = 4096;
 
 calls! {

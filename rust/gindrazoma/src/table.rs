@@ -4,18 +4,19 @@ use crate::{raw, Refusal};
 #[derive(Clone, Debug, PartialEq, Eq, Hash)]
 pub struct Rule {
     pub job: u8,
-    pub action: u8,
+    pub action: u16,
     pub after: Vec<u8>,
 }
 
 impl Rule {
-    pub fn new(job: u8, action: u8, after: &[u8]) -> Rule {
+    pub fn new(job: u8, action: u16, after: &[u8]) -> Rule {
         Rule { job, action, after: after.to_vec() }
     }
 
     /// The rule as 8 bytes; more than four jobs after give a place that is refused.
     fn place(&self) -> [u8; 8] {
-        let mut place = [self.job, self.action, self.after.len().min(255) as u8, 0, 0, 0, 0, 0];
+        let [low, high] = self.action.to_le_bytes();
+        let mut place = [self.job, low, self.after.len().min(255) as u8, 0, 0, 0, 0, high];
         for (byte, &job) in place[3..7].iter_mut().zip(&self.after) {
             *byte = job;
         }
@@ -23,14 +24,14 @@ impl Rule {
     }
 
     fn of_place(place: &[u8]) -> Rule {
-        Rule::new(place[0], place[1], &place[3..3 + place[2] as usize])
+        Rule::new(place[0], u16::from_le_bytes([place[1], place[7]]), &place[3..3 + place[2] as usize])
     }
 }
 
 /// A move of a plan with the plan that remains.
 #[derive(Clone, Debug, PartialEq, Eq, Hash)]
 pub struct Move {
-    pub action: u8,
+    pub action: u16,
     pub rest: Vec<u8>,
 }
 
@@ -99,15 +100,16 @@ impl Table {
 
     /// Moves that lead from a plan to the empty plan, as few as can be.
     #[inline]
-    pub fn shortest_run(&self, plan: &[u8]) -> Result<Vec<u8>, Refusal> {
-        written(raw::RUN_MAX, |out| raw::shortest_run(&self.image, plan, out))
+    pub fn shortest_run(&self, plan: &[u8]) -> Result<Vec<u16>, Refusal> {
+        let run = written(raw::RUN_MAX, |out| raw::shortest_run(&self.image, plan, out))?;
+        Ok(run.as_chunks().0.iter().map(|&action| u16::from_le_bytes(action)).collect())
     }
 
     /// The move of a plan at an index, one for each rule of its first job in image order.
     #[inline]
     pub fn nth_move(&self, plan: &[u8], index: u32) -> Result<Option<Move>, Refusal> {
         let out = written(raw::MOVE_MAX, |out| raw::nth_move(&self.image, plan, index, out))?;
-        Ok(out.split_first().map(|(&action, rest)| Move { action, rest: rest.to_vec() }))
+        Ok(out.split_first_chunk().map(|(&action, rest)| Move { action: u16::from_le_bytes(action), rest: rest.to_vec() }))
     }
 
     /// Whether two plans are bisimilar.

@@ -16,6 +16,16 @@ fn a_table_survives_writing_and_reading() {
 }
 
 #[test]
+fn moves_have_two_bytes() {
+    let moves = [0, 97, 255, 256, 353, 65535];
+    let table = Table::from_rules(1, &moves.map(|action| Rule::new(0, action, &[]))).unwrap();
+    let bytes: Vec<_> = table.image()[2..50].chunks(8).map(|place| (place[1], place[7])).collect();
+    assert_eq!(bytes, [(0, 0), (97, 0), (255, 0), (0, 1), (97, 1), (255, 255)]);
+    let read = Table::from_image(table.image()).unwrap();
+    assert_eq!(read.rules().iter().map(|rule| rule.action).collect::<Vec<_>>(), moves);
+}
+
+#[test]
 fn refusals_come_as_errors() {
     let t = Table::from_rules(4, &rules_of_t()).unwrap();
     assert_eq!(Table::from_image(&[]), Err(Refusal::BadLength));

@@ -27,6 +27,18 @@ fn moves() {
 }
 
 #[test]
+fn moves_of_two_bytes() {
+    let moves = [0, 255, 256, 353, 65535];
+    let rules: Vec<Rule> = (0..).zip(moves).map(|(job, action)| Rule::new(job, action, &[])).collect();
+    let t = Table::from_rules(5, &rules).unwrap();
+    for (job, action) in (0..).zip(moves) {
+        assert_eq!(t.nth_move(&[job, 1, 0], 0), Ok(Some(Move { action, rest: vec![1, 0] })));
+    }
+    assert_eq!(t.shortest_run(&[4, 3, 2, 1, 0, 2]), Ok(vec![65535, 353, 256, 255, 0, 256]));
+    assert_eq!(t.shortest_run(&[4; 4096]), Ok(vec![65535; 4096]));
+}
+
+#[test]
 fn runs() {
     assert_eq!(table().shortest_run(&[]), Ok(vec![]));
     assert_eq!(table().shortest_run(&[2, 0]), Ok(vec![99, 97, 97, 97]));

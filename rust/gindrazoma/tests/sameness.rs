@@ -16,6 +16,15 @@ fn comparisons() {
 }
 
 #[test]
+fn moves_that_differ_in_their_high_bytes() {
+    let rules = [Rule::new(0, 97, &[]), Rule::new(1, 353, &[]), Rule::new(2, 353, &[])];
+    let (t, mut space) = (Table::from_rules(3, &rules).unwrap(), Workspace::new());
+    assert_eq!(t.same(&mut space, &[0], &[1]), Ok(false));
+    assert_eq!(t.same(&mut space, &[2], &[1]), Ok(true));
+    assert_eq!(t.prime_form(&mut space, &[2, 1, 0]), Ok(vec![1, 1, 0]));
+}
+
+#[test]
 fn prime_forms() {
     let (t, mut space) = (table(), Workspace::default());
     assert_eq!(t.prime_form(&mut space, &[2, 3]), Ok(vec![0, 0, 0, 3]));

@@ -36,16 +36,17 @@ fn exchange_blocks(rng: &mut Rng, image: &mut [u8]) {
     left[512 * k..].swap_with_slice(&mut right[..512]);
 }
 
-/// One byte, often one of the header's or of a place in use, and often a number that is nearly right.
+/// One byte, often one of the header's, of a place in use or the last of any place, and often a number that is nearly right.
 fn change_byte(rng: &mut Rng, image: &mut [u8]) {
     let blocks = image.len() / 512;
     if blocks == 0 {
         return;
     }
     let block = &mut image[512 * rng.below(blocks)..][..512];
-    let at = match rng.below(4) {
+    let at = match rng.below(5) {
         0 => *rng.pick(&[0, 1, 506, 507, 508, 509, 510, 511]),
         1 => rng.below(512),
+        2 => 2 + 8 * rng.below(63) + 7,
         _ => 2 + rng.below(8 * usize::from(block[1]).clamp(1, 63)),
     };
     block[at] = match rng.below(4) {

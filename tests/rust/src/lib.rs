@@ -2,6 +2,7 @@
 pub mod area;
 pub mod damage;
 pub mod harness;
+pub mod old_format;
 pub mod play;
 pub mod refusals;
 pub mod rng;

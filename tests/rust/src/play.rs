@@ -17,7 +17,7 @@ pub enum Replay {
 
 struct Choice {
     on_left: bool,
-    action: u8,
+    action: u16,
     rest: Plan,
 }
 
@@ -58,7 +58,7 @@ impl Second<'_> {
     /// A move of `mine` to which every equal move of `other` leaves unequal rows; only norm-lowering moves, if asked so.
     fn unanswered(&self, on_left: bool, mine: &[u8], other: &[u8], rows: &Rows, lowering_only: bool) -> Option<Choice> {
         let lowers = |rest: &Plan, plan: &[u8]| !lowering_only || self.norm(rest) + 1 == self.norm(plan);
-        let answers: Vec<(u8, Plan)> =
+        let answers: Vec<(u16, Plan)> =
             self.table.moves(other).into_iter().filter(|(_, q)| lowers(q, other)).map(|(a, q)| (a, flat(rows, &q))).collect();
         let moves = self.table.moves(mine).into_iter().filter(|(_, p)| lowers(p, mine));
         let mut free = moves.filter(|(a, p)| {

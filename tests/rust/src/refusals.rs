@@ -5,8 +5,8 @@ fn number_at(block: &[u8], at: usize) -> usize {
     usize::from(u16::from_le_bytes([block[at], block[at + 1]]))
 }
 
-/// Each check is made over all blocks before the next.
-pub fn of_layout(image: &[u8]) -> u8 {
+/// 2 to 4 of an image, each check made over all blocks before the next.
+pub fn of_frame(image: &[u8]) -> u8 {
     if ![512, 1024, 1536, 2048].contains(&image.len()) {
         return 2;
     }
@@ -23,32 +23,49 @@ pub fn of_layout(image: &[u8]) -> u8 {
             return 4;
         }
     }
-    for b in &blocks {
-        let (used, unused) = b[2..506].split_at(8 * usize::from(b[1]));
-        if !used.chunks(8).all(|p| good_place(p, b[0].into())) || unused.iter().any(|&x| x != 0) {
-            return 5;
-        }
-    }
     0
 }
 
-fn good_place(place: &[u8], jobs: u32) -> bool {
+/// 2 to 5 of an image, by a test of places in use.
+pub fn of_layout(image: &[u8], good_place: impl Fn(&[u8], u32) -> bool) -> u8 {
+    let refusal = of_frame(image);
+    if refusal != 0 {
+        return refusal;
+    }
+    let good = |b: &[u8]| {
+        let (used, unused) = b[2..506].split_at(8 * usize::from(b[1]));
+        used.chunks(8).all(|p| good_place(p, b[0].into())) && unused.iter().all(|&x| x == 0)
+    };
+    if image.chunks(512).all(good) {
+        0
+    } else {
+        5
+    }
+}
+
+/// Byte 7 is the high byte of the move and may be anything.
+pub fn good_place(place: &[u8], jobs: u32) -> bool {
     let named = usize::from(place[2]);
     u32::from(place[0]) < jobs
         && named <= 4
-        && (0..5).all(|i| if i < named { u32::from(place[3 + i]) < jobs } else { place[3 + i] == 0 })
+        && (0..4).all(|i| if i < named { u32::from(place[3 + i]) < jobs } else { place[3 + i] == 0 })
 }
 
 /// The table of places that passed check 5.
 pub fn table_of_places(jobs: usize, places: &[u8]) -> Table {
-    let rules = places.chunks(8).map(|p| rule(p[0], p[1], &p[3..3 + usize::from(p[2])])).collect();
+    let action = |p: &[u8]| u16::from(p[1]) + 256 * u16::from(p[7]);
+    let rules = places.chunks(8).map(|p| rule(p[0], action(p), &p[3..3 + usize::from(p[2])])).collect();
     Table { jobs, rules }
+}
+
+/// The places in use of an image that passed checks 2 to 4.
+pub fn places_of_image(image: &[u8]) -> Vec<u8> {
+    image.chunks(512).flat_map(|b| b[2..2 + 8 * usize::from(b[1])].to_vec()).collect()
 }
 
 /// The table of an image that passed checks 2 to 5.
 pub fn table_of_image(image: &[u8]) -> Table {
-    let places: Vec<u8> = image.chunks(512).flat_map(|b| b[2..2 + 8 * usize::from(b[1])].to_vec()).collect();
-    table_of_places(image[0].into(), &places)
+    table_of_places(image[0].into(), &places_of_image(image))
 }
 
 pub fn of_table(table: &Table) -> u8 {
@@ -61,7 +78,7 @@ pub fn of_table(table: &Table) -> u8 {
 
 /// 2 to 7 of an image.
 pub fn of_image(image: &[u8]) -> u8 {
-    match of_layout(image) {
+    match of_layout(image, good_place) {
         0 => of_table(&table_of_image(image)),
         refusal => refusal,
     }
@@ -69,7 +86,7 @@ pub fn of_image(image: &[u8]) -> u8 {
 
 /// 2, 4, 5, 6 and 7 of a job count and a rule list.
 pub fn of_list(jobs: u32, rules: &[u8]) -> u8 {
-    if rules.len() % 8 != 0 || !(1..=252).contains(&(rules.len() / 8)) {
+    if !rules.len().is_multiple_of(8) || !(1..=252).contains(&(rules.len() / 8)) {
         return 2;
     }
     if !(1..=24).contains(&jobs) {

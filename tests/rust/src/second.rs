@@ -97,7 +97,7 @@ impl<'t> Second<'t> {
     }
 
     /// The moves of a job with others behind it, each remainder as its row; only those that lower the norm, if asked so.
-    fn remainders(&self, job: u8, behind: &[u8], rows: &Rows, lowering_only: bool) -> BTreeSet<(u8, Plan)> {
+    fn remainders(&self, job: u8, behind: &[u8], rows: &Rows, lowering_only: bool) -> BTreeSet<(u16, Plan)> {
         let rules = self.table.rules_of(job).filter(|r| !lowering_only || self.lowers(r));
         rules.map(|r| (r.action, flat(rows, &[&r.after, behind].concat()))).collect()
     }
@@ -120,7 +120,7 @@ impl<'t> Second<'t> {
             }
             let (left, right) = (self.table.moves(&[job as u8]), self.table.moves(row));
             let answered =
-                |(a, p): &(u8, Plan), by: &[(u8, Plan)]| by.iter().any(|(b, q)| a == b && flat(rows, p) == flat(rows, q));
+                |(a, p): &(u16, Plan), by: &[(u16, Plan)]| by.iter().any(|(b, q)| a == b && flat(rows, p) == flat(rows, q));
             if !left.iter().all(|m| answered(m, &right)) || !right.iter().all(|m| answered(m, &left)) {
                 return Err(format!("job {job} and its row {row:?} do not match"));
             }

@@ -1,6 +1,7 @@
 //! Random tables of several shapes, plans over them, and plans rewritten to other plans that are the same.
 use crate::rng::Rng;
 use crate::table::{norm, rule, Plan, Rule, Table};
+use std::collections::{BTreeSet, HashSet};
 
 /// A table with what its construction knows: the row of base jobs that each job stands for.
 pub struct Made {
@@ -54,7 +55,7 @@ impl Made {
                 Shape::Tiny => random_table(rng, 5, 2, 3, 3),
                 Shape::Regular => random_table(rng, 9, 2, 3, 1),
                 Shape::OneMove => random_table(rng, 8, 1, 3, 4),
-                Shape::Wide => random_table(rng, 24, 256, 10, 4),
+                Shape::Wide => random_table(rng, 24, ANY, 10, 4),
                 Shape::Equations => equations(rng, Sizes { base: (1, 4), jobs: (4, 16), rules: 3, fill: 0, word: 40 }),
                 Shape::Light => equations(rng, Sizes { base: (4, 8), jobs: (24, 24), rules: 2, fill: 0, word: 40 }),
                 Shape::Full => equations(rng, Sizes { base: (2, 5), jobs: (24, 24), rules: 4, fill: 252, word: 40 }),
@@ -63,7 +64,8 @@ impl Made {
                     .and_then(|m| one_rule_changed(rng, m)),
                 Shape::Chains => chains(rng),
             };
-            if let Some(made) = made {
+            if let Some(mut made) = made {
+                change_moves(rng, &mut made.table);
                 return made;
             }
         }
@@ -120,6 +122,18 @@ impl Made {
 
     pub fn norm(&self, plan: &[u8]) -> u64 {
         norm(&self.norms, plan)
+    }
+
+    /// Whether moves, two bytes each with the low byte first, are as many as the norm of a plan and can lead to the empty plan.
+    pub fn is_shortest_run(&self, plan: &[u8], run: &[u8]) -> bool {
+        let mut left = self.norm(plan);
+        let mut plans = HashSet::from([plan.to_vec()]);
+        for action in run.chunks(2).map(|m| u16::from(m[0]) + 256 * u16::from(m[1])) {
+            left = left.wrapping_sub(1);
+            let next = plans.iter().flat_map(|p| self.table.moves(p)).filter(|(a, q)| *a == action && self.norm(q) == left);
+            plans = next.map(|(_, q)| q).collect();
+        }
+        plans.contains(&Vec::new())
     }
 
     /// A plan of a norm of at most `most`.
@@ -203,13 +217,48 @@ fn random_table(rng: &mut Rng, jobs_most: usize, actions: usize, rules_most: usi
 }
 
 /// Few moves: two that are equal in their low seven bits, and 0.
-const MOVES: [u8; 3] = [97, 225, 0];
+const MOVES: [u16; 3] = [97, 225, 0];
 
-fn action(rng: &mut Rng, actions: usize) -> u8 {
-    if actions == 256 {
-        rng.byte()
+/// The first and last moves of one byte and of two.
+pub const EDGES: [u16; 4] = [0, 255, 256, 65535];
+
+/// Moves over their whole range.
+const ANY: usize = 65536;
+
+fn action(rng: &mut Rng, actions: usize) -> u16 {
+    if actions == ANY {
+        any_move(rng, 97)
     } else {
         MOVES[rng.below(actions)]
+    }
+}
+
+/// Any move, often one with a given low byte or one of the edges.
+pub fn any_move(rng: &mut Rng, low: u8) -> u16 {
+    match rng.below(3) {
+        0 => *rng.pick(&EDGES),
+        1 => u16::from_le_bytes([low, rng.byte()]),
+        _ => rng.number() as u16,
+    }
+}
+
+/// Two times in three other moves for those of a table that has few, different ones for different ones: all with one low
+/// byte, or of the whole range.
+fn change_moves(rng: &mut Rng, table: &mut Table) {
+    let old: BTreeSet<u16> = table.rules.iter().map(|r| r.action).collect();
+    if old.len() > EDGES.len() || rng.once_in(3) {
+        return;
+    }
+    let (low, one_low) = (rng.byte(), rng.once_in(2));
+    let mut new = Vec::new();
+    while new.len() < old.len() {
+        let action = if one_low { u16::from_le_bytes([low, rng.byte()]) } else { any_move(rng, low) };
+        if !new.contains(&action) {
+            new.push(action);
+        }
+    }
+    for r in &mut table.rules {
+        r.action = new[old.range(..r.action).count()];
     }
 }
 
@@ -308,7 +357,7 @@ fn chains(rng: &mut Rng) -> Option<Made> {
 }
 
 /// The rules of a job that stands for a row of base jobs: None if some remainder cannot be written with four jobs.
-fn follow(rng: &mut Rng, rules: &[Rule], words: &[Plan], word: &[u8]) -> Option<Vec<(u8, Plan)>> {
+fn follow(rng: &mut Rng, rules: &[Rule], words: &[Plan], word: &[u8]) -> Option<Vec<(u16, Plan)>> {
     let mut ways = Vec::new();
     for r in rules.iter().filter(|r| r.job == word[0]) {
         let rest = [&r.after, &word[1..]].concat();

@@ -7,7 +7,7 @@ pub type Plan = Vec<u8>;
 #[derive(Clone, Debug, PartialEq, Eq)]
 pub struct Rule {
     pub job: u8,
-    pub action: u8,
+    pub action: u16,
     pub after: Plan,
 }
 
@@ -17,7 +17,7 @@ pub struct Table {
     pub rules: Vec<Rule>,
 }
 
-pub fn rule(job: u8, action: u8, after: &[u8]) -> Rule {
+pub fn rule(job: u8, action: u16, after: &[u8]) -> Rule {
     Rule { job, action, after: after.to_vec() }
 }
 
@@ -25,7 +25,7 @@ impl Rule {
     pub fn place(&self) -> [u8; 8] {
         let mut place = [0; 8];
         place[0] = self.job;
-        place[1] = self.action;
+        [place[1], place[7]] = self.action.to_le_bytes();
         place[2] = self.after.len() as u8;
         place[3..3 + self.after.len()].copy_from_slice(&self.after);
         place
@@ -33,7 +33,7 @@ impl Rule {
 }
 
 impl Table {
-    pub fn new(jobs: usize, rules: &[(u8, u8, &[u8])]) -> Table {
+    pub fn new(jobs: usize, rules: &[(u8, u16, &[u8])]) -> Table {
         Table { jobs, rules: rules.iter().map(|&(j, a, w)| rule(j, a, w)).collect() }
     }
 
@@ -63,7 +63,7 @@ impl Table {
     }
 
     /// The moves of a plan: only its first job moves, and the jobs behind it wait.
-    pub fn moves(&self, plan: &[u8]) -> Vec<(u8, Plan)> {
+    pub fn moves(&self, plan: &[u8]) -> Vec<(u16, Plan)> {
         let Some((&first, behind)) = plan.split_first() else { return Vec::new() };
         self.rules_of(first).map(|r| (r.action, [&r.after, behind].concat())).collect()
     }

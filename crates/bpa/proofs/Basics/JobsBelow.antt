@@ -18,6 +18,12 @@ below-at n [] k h l = absurd (omega arith)
 below-at n (x ∷ xs) zero h l = below-parts n x xs h .0
 below-at n (x ∷ xs) (suc k) h l = below-at n xs k (below-parts n x xs h .1) (omega arith)
 
+pub below-all : (n : ℕ) (xs : List ℕ) → ((k : ℕ) → k < length xs → getD xs k 0 < n) → all-below n xs ≡ true
+unfolding all-below
+below-all n [] h = refl
+below-all n (x ∷ xs) h =
+    (and-eq-true-iff (ltb x n) (all-below n xs)) .1 (lt-ltb x n (h 0 (omega arith)), below-all n xs (λ k l. h (suc k) (omega arith)))
+
 pub below-more : (n m : ℕ) (xs : List ℕ) → n ≤ m → all-below n xs ≡ true → all-below m xs ≡ true
 unfolding all-below
 below-more n m [] l h = refl

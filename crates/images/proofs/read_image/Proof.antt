@@ -1,12 +1,9 @@
 -- `images::read_image` meets its contract. Assumes nothing.
 use mathlib.Core.Path.{_∙_}
-use native.Mathlib.Omega.{arith}
 use borrow.Author.Needs.{needs}
-use lib.ListN.{length-take}
 use mir.Syntax.{w32}
 use mir.ValLaws.{toZ-ofZ}
 use Rattle.answer.proofs.Answers.{writes-refused, writes-done}
-use Rattle.images.proofs.ImageBytes.{held-bytes}
 use Rattle.images.proofs.read_image.Statement.{statement}
 use Rattle.images.proofs.read_image.Tie as tie
 
@@ -18,7 +15,7 @@ returns c =
 write-table-requires : tie.Need-write-table-requires
 write-table-requires c κs =
     let l = c .before .before .before .before .before .before .load .ensures in
-    (omega (arith, l .few), rw (c .before .rules-of .ensures) (simp length-take (omega (arith, l .inside))))
+    rw (c .before .rules-of .ensures) (l .holds (c .before .before .before .before .before .if1 .left) .good .list)
 
 returns-2 : tie.Need-returns-2
 returns-2 c =
@@ -27,7 +24,7 @@ returns-2 c =
     let l = e .before .load .ensures in
     writes-done (l .refusal-is) (e .if1 .left)
     (rw (toZ-ofZ w32 (w .write-table .result) (record { sfits = w .write-table .ok }))
-    (rw (w .before .before .rules-of .ensures, held-bytes (l .holds (e .if1 .left))) at (w .write-table .ensures)))
+    (rw (w .before .before .rules-of .ensures, l .holds (e .if1 .left) .is) at (w .write-table .ensures)))
 
 pub read-image-spec : {M : Type 1} → statement M
 read-image-spec =

@@ -16,6 +16,7 @@ use Rattle.rules.specs.Places.{rule-at, rule-count, table-of}
 use Rattle.rules.proofs.ListLaws.{good-has-place}
 use Rattle.moves.specs.Moves.{move-bytes, bytes-by, IsNth}
 use Rattle.area.specs.Areas.{put}
+use Rattle.area.specs.Numbers.{low-first}
 use Rattle.answer.proofs.Answers.{nothing, too-short, written}
 use Rattle.moves.proofs.MoveByRule.{moved}
 use Rattle.moves.proofs.nth_move.Statement.{statement}
@@ -32,8 +33,8 @@ one-found n rs p k i h f l = moved n rs p k i h f ∙ ap (λ (b : Bool). cond b 
 
 -- its length
 bytes-length : (rs : List ℕ) (i : ℕ) (p : List ℕ) → 0 < length p →
-    length (bytes-by rs i (drop 1 p)) ≡ length p + length (rule-at rs i .after)
-unfolding bytes-by
+    length (bytes-by rs i (drop 1 p)) ≡ length p + length (rule-at rs i .after) + 1
+unfolding bytes-by low-first
 bytes-length rs i p h = omega (arith, length-append (rule-at rs i .after) (drop 1 p), length-drop 1 p)
 
 -- the jobs that wait, as the code takes them
@@ -88,6 +89,9 @@ rule-len-requires c κs =
 
 add-need : tie.Need-add-need
 add-need c = search needs
+
+add-need-2 : tie.Need-add-need-2
+add-need-2 c = search needs
 
 returns-3 : tie.Need-returns-3
 returns-3 c =
@@ -171,6 +175,7 @@ nth-move-spec =
     returns-2
     rule-len-requires
     add-need
+    add-need-2
     returns-3
     sub-write-move
     part-write-move-start

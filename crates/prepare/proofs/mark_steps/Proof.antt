@@ -1,7 +1,7 @@
 -- `mark_steps` meets its contract. From the last rule to the first, the marks are those of the rules passed. Assumes nothing.
 use mathlib.Core.Path.{_≡_, refl, sym, ap, _∙_, subst}
 use mathlib.Core.List.{List, []}
-use Prim.Native.Nat.{ℕ, suc, _+_, _-_, _*_, _%_, _^_, _≤_, _<_}
+use Prim.Native.Nat.{ℕ, suc, _+_, _-_, _*_, _/_, _%_, _^_, _≤_, _<_}
 use native.Mathlib.Omega.{arith}
 use lib.Bits.{bitOr}
 use lib.ListN.{length, getD, length-set}
@@ -9,7 +9,7 @@ use borrow.Author.Needs.{needs}
 use Rattle.bpa.specs.Norms.{sum-of}
 use Rattle.rules.specs.Places.{rule-count, rule-at}
 use Rattle.rules.proofs.ListLaws.{good-rule}
-use Rattle.prepare.specs.Prepared.{step-bit}
+use Rattle.prepare.specs.Prepared.{step-number, step-bit}
 use Rattle.prepare.proofs.Marks.{Marking, mark-none, mark-more, marked, shifted}
 use Rattle.prepare.proofs.mark_steps.Statement.{statement}
 use Rattle.prepare.proofs.mark_steps.Tie as tie
@@ -99,27 +99,30 @@ module _ (c : tie.After-rule-move Inv-loop μ-loop) where
   change = getD (start turn .args .sums .now) (i turn) 0 + 512 - getD (ns turn) job 0
 
   abbrev step : ℕ
-  step = c .rule-move .result + 11 * change
+  step = c .rule-move .result + c .rule-move .result / 256 + 11 * change
 
   small-change : change ≤ 2560
   small-change = omega (arith, small-sum turn)
 
   bit : (1 * 2 ^ (step % 64)) % 2 ^ 64 ≡ step-bit (ns turn) (rule-at (rs turn) (i turn))
-  unfolding step-bit
+  unfolding step-bit step-number
   bit =
       shifted (step % 64) (omega arith)
-      ∙ ap (λ (m : ℕ). 2 ^ ((m + 11 * change) % 64)) (c .rule-move .ensures .is)
-      ∙ ap (λ (m : ℕ). 2 ^ ((rule-at (rs turn) (i turn) .move + 11 * (m + 512 - getD (ns turn) job 0)) % 64)) (start turn .pre .1 .at (i turn) (inside turn) .is)
-      ∙ ap (λ (m : ℕ). 2 ^ ((rule-at (rs turn) (i turn) .move + 11 * (sum-of (ns turn) (rule-at (rs turn) (i turn) .after) + 512 - getD (ns turn) m 0)) % 64)) (turn .rule-job .ensures .is)
+      ∙ ap (λ (m : ℕ). 2 ^ step-number m change) (c .rule-move .ensures .is)
+      ∙ ap (λ (m : ℕ). 2 ^ step-number (rule-at (rs turn) (i turn) .move) (m + 512 - getD (ns turn) job 0)) (start turn .pre .1 .at (i turn) (inside turn) .is)
+      ∙ ap (λ (m : ℕ). 2 ^ step-number (rule-at (rs turn) (i turn) .move) (sum-of (ns turn) (rule-at (rs turn) (i turn) .after) + 512 - getD (ns turn) m 0)) (turn .rule-job .ensures .is)
 
 cast-step : tie.Need-cast-step Inv-loop μ-loop
 cast-step c = omega (arith, small-change c)
 
+add-step : tie.Need-add-step Inv-loop μ-loop
+add-step c = omega (arith, c .rule-move .ensures .small)
+
 mul-step : tie.Need-mul-step Inv-loop μ-loop
 mul-step c = omega (arith, small-change c)
 
-add-step : tie.Need-add-step Inv-loop μ-loop
-add-step c = omega (arith, small-change c, c .rule-move .ensures .small)
+add-step-2 : tie.Need-add-step-2 Inv-loop μ-loop
+add-step-2 c = omega (arith, small-change c, c .rule-move .ensures .small)
 
 mul-marks : tie.Need-mul-marks Inv-loop μ-loop
 mul-marks c = omega (arith, job-below (turn c))
@@ -181,9 +184,10 @@ mark-steps-spec =
     element-copy-out-change-2
     sub-change
     rule-move-requires
+    add-step
     cast-step
     mul-step
-    add-step
+    add-step-2
     mul-marks
     array-read-marks
     cast-marks

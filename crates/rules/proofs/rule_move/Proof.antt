@@ -6,31 +6,21 @@ use Rattle.rules.proofs.PlaceLaws.{room, move-at}
 use Rattle.rules.proofs.rule_move.Statement.{statement}
 use Rattle.rules.proofs.rule_move.Tie as tie
 
-mul-wide : tie.Need-mul-wide
-mul-wide c =
-    let s = c .before in
-    omega (arith, room (s .args .rules .now) (s .args .i) (s .pre))
-
-add-wide : tie.Need-add-wide
-add-wide c =
-    let s = c .before in
-    omega (arith, room (s .args .rules .now) (s .args .i) (s .pre))
-
-shared-slice-read-wide : tie.Need-shared-slice-read-wide
-shared-slice-read-wide c =
-    let s = c .before .before in
-    omega (arith, room (s .args .rules .now) (s .args .i) (s .pre))
-
-wide-requires : tie.Need-wide-requires
-wide-requires c κs = search needs
-
-cast-result : tie.Need-cast-result
-cast-result c = omega (arith, c .wide .ensures .small)
-
 returns : tie.Need-returns
 returns c =
-    let s = c .before .before .before in
-    record { is = c .wide .ensures .is ∙ sym (move-at (s .args .rules .now) (s .args .i)); small = c .wide .ensures .small }
+    let s = c .before .before .before .before in
+    record { is = c .number .ensures .is ∙ sym (move-at (s .args .rules .now) (s .args .i)); small = c .number .ensures .small }
 
 pub rule-move-spec : {M : Type 1} → statement M
-rule-move-spec = tie.close (tie.spec mul-wide add-wide shared-slice-read-wide wide-requires cast-result returns)
+rule-move-spec =
+    tie.close
+    (tie.spec
+    (λ c. let s = c .before in omega (arith, room (s .args .rules .now) (s .args .i) (s .pre)))  -- mul-number
+    (λ c. let s = c .before in omega (arith, room (s .args .rules .now) (s .args .i) (s .pre)))  -- add-number
+    (λ c. let s = c .before .before in omega (arith, room (s .args .rules .now) (s .args .i) (s .pre)))  -- shared-slice-read-number
+    (λ c. let s = c .before .before in omega (arith, room (s .args .rules .now) (s .args .i) (s .pre)))  -- mul-number-2
+    (λ c. let s = c .before .before in omega (arith, room (s .args .rules .now) (s .args .i) (s .pre)))  -- add-number-2
+    (λ c. let s = c .before .before .before in omega (arith, room (s .args .rules .now) (s .args .i) (s .pre)))  -- shared-slice-read-number-2
+    (λ c κs. search needs)  -- number-requires
+    (λ c. omega (arith, c .number .ensures .small))  -- cast-result
+    returns)

@@ -1,7 +1,7 @@
 -- `runs::run_job` meets its contract. The loop's invariant: the moves written lead from the job to the jobs on the stack.
 -- Assumes nothing.
 use mathlib.Core.Path.{_≡_, sym, ap, _∙_}
-use Prim.Native.Nat.{ℕ, _+_, _-_, _≤_, _<_}
+use Prim.Native.Nat.{ℕ, _+_, _*_, _-_, _≤_, _<_}
 use native.Mathlib.Omega.{arith}
 use borrow.Author.Needs.{needs}
 use lib.ListN.{length, getD, replicate, length-replicate}
@@ -16,7 +16,7 @@ abbrev Inv-loop : tie.InvT-loop
 Inv-loop jobs rules low job out₀ at stack₀ top₀ to₀ out stack top to = Running (table-of jobs rules) job at out₀ stack top to out
 
 abbrev μ-loop : tie.MeasureT-loop
-μ-loop jobs rules low job out₀ at stack₀ top₀ to₀ out stack top to = at + getD (norms (table-of jobs rules)) job 0 - to
+μ-loop jobs rules low job out₀ at stack₀ top₀ to₀ out stack top to = at + 2 * getD (norms (table-of jobs rules)) job 0 - to
 
 cast-stack : tie.Need-cast-stack Inv-loop μ-loop
 cast-stack c = omega (arith, c .before .before .pre .1 .0, c .before .before .pre .0 .list .jobs)
@@ -54,7 +54,7 @@ there c =
     let s = c .before .before .before .before .before .before .before in
     omega (arith, place c, s .pre .0 .lowers _ (below (c .before .before .before)) .place)
 
-room : (c : tie.In-loop Inv-loop μ-loop) → c .before .loop .to < length (c .before .loop .out)
+room : (c : tie.In-loop Inv-loop μ-loop) → c .before .loop .to + 1 < length (c .before .loop .out)
 room c =
     let at-loop = c .before in
     let s = at-loop .before .before .before in
@@ -63,16 +63,16 @@ room c =
 
 -- the jobs after the move, and their number
 after : (c : tie.After-rule-after Inv-loop μ-loop) →
-    c .rule-after .result .now ≡ rule-at (c .before .before .before .before .before .before .before .before .before .args .rules .now)
-    (getD (c .before .before .before .before .before .before .before .before .before .args .low .now)
-    (getD (c .before .before .before .before .before .before .loop .stack) (c .before .before .before .before .before .before .loop .top) 0) 0) .after
+    c .rule-after .result .now ≡ rule-at (c .before .before .before .before .before .before .before .before .before .before .before .before .before .args .rules .now)
+    (getD (c .before .before .before .before .before .before .before .before .before .before .before .before .before .args .low .now)
+    (getD (c .before .before .before .before .before .before .before .before .before .before .loop .stack) (c .before .before .before .before .before .before .before .before .before .before .loop .top) 0) 0) .after
 after c =
-    let s = c .before .before .before .before .before .before .before .before .before in
-    c .rule-after .ensures ∙ ap (λ (i : ℕ). rule-at (s .args .rules .now) i .after) (place (c .before .before))
+    let s = c .before .before .before .before .before .before .before .before .before .before .before .before .before in
+    c .rule-after .ensures ∙ ap (λ (i : ℕ). rule-at (s .args .rules .now) i .after) (place (c .before .before .before .before .before .before))
 
-short : (c : tie.After-rule-after Inv-loop μ-loop) → length (c .rule-after .result .now) ≤ c .before .before .before .before .before .before .loop .top
+short : (c : tie.After-rule-after Inv-loop μ-loop) → length (c .rule-after .result .now) ≤ c .before .before .before .before .before .before .before .before .before .before .loop .top
 short c =
-    let at-test = c .before .before .before .before .before in
+    let at-test = c .before .before .before .before .before .before .before .before .before in
     let at-loop = at-test .before in
     let s = at-loop .before .before .before in
     after-fits (s .args .jobs) (s .args .rules .now) (s .args .low .now) (s .pre .0) (s .args .job) (s .args .at) (s .args .out .now)
@@ -94,40 +94,40 @@ wide-requires-2 c κs = search needs
 rule-move-requires : tie.Need-rule-move-requires Inv-loop μ-loop
 rule-move-requires c κs = there c
 
-cast-out : tie.Need-cast-out Inv-loop μ-loop
-cast-out c = omega (arith, c .rule-move .ensures .small)
+cast-put-number : tie.Need-cast-put-number Inv-loop μ-loop
+cast-put-number c = omega (arith, c .rule-move .ensures .small)
 
-slice-write-out : tie.Need-slice-write-out Inv-loop μ-loop
-slice-write-out c = room (c .before .before .before .before)
+put-number-requires : tie.Need-put-number-requires Inv-loop μ-loop
+put-number-requires c κs = room (c .before .before .before .before .before)
 
 add-to : tie.Need-add-to Inv-loop μ-loop
 add-to c =
-    let at-loop = c .before .before .before .before .before in
+    let at-loop = c .before .before .before .before .before .before .before .before .before in
     let s = at-loop .before .before .before in
-    omega (arith, room (c .before .before .before .before), at-loop .loop .inv .same, s)
+    omega (arith, room (c .before .before .before .before .before .before .before .before), at-loop .loop .inv .same, s)
 
 rule-after-requires : tie.Need-rule-after-requires Inv-loop μ-loop
 rule-after-requires c κs =
-    let s = c .before .before .before .before .before .before .before .before in
-    good-has-place (s .args .jobs) (s .args .rules .now) (s .pre .0 .list) _ (there (c .before))
+    let s = c .before .before .before .before .before .before .before .before .before .before .before .before in
+    good-has-place (s .args .jobs) (s .args .rules .now) (s .pre .0 .list) _ (there (c .before .before .before .before .before))
 
 add-top : tie.Need-add-top Inv-loop μ-loop
-add-top c = omega (arith, c .before .before .before .before .before .loop-test .taken)
+add-top c = omega (arith, c .before .before .before .before .before .before .before .before .before .loop-test .taken)
 
 sub-top : tie.Need-sub-top Inv-loop μ-loop
 sub-top c = omega (arith, short c)
 
 slice-aggregate-put : tie.Need-slice-aggregate-put Inv-loop μ-loop
-slice-aggregate-put c = sym (c .before .before .before .before .before .before .before .loop .inv .size)
+slice-aggregate-put c = sym (c .before .before .before .before .before .before .before .before .before .before .before .loop .inv .size)
 
 put-requires : tie.Need-put-requires Inv-loop μ-loop
 put-requires c κs =
-    let at-test = c .before .before .before .before .before .before in
+    let at-test = c .before .before .before .before .before .before .before .before .before .before in
     omega (arith, short (c .before), at-test .before .loop .inv .size, not-empty at-test)
 
 loop-less : tie.Need-loop-less Inv-loop μ-loop
 loop-less c =
-    let at-test = c .before .before .before .before .before .before .before .before in
+    let at-test = c .before .before .before .before .before .before .before .before .before .before .before .before in
     let at-loop = at-test .before in
     let s = at-loop .before .before .before in
     let h = to-below (s .args .jobs) (s .args .rules .now) (s .args .low .now) (s .pre .0) (s .args .job) (s .args .at) (s .args .out .now)
@@ -138,15 +138,16 @@ loop-again : tie.Need-loop-again Inv-loop μ-loop
 loop-again c =
     let k = c .before .put in
     let at-after = c .before .before .before in
-    let m = at-after .before .rule-move in
-    let at-test = at-after .before .before .before .before .before in
+    let w = at-after .before .before .before .put-number in
+    let m = at-after .before .before .before .before .before .rule-move in
+    let at-test = at-after .before .before .before .before .before .before .before .before .before in
     let at-loop = at-test .before in
     let s = at-loop .before .before .before in
     running-more (s .args .jobs) (s .args .rules .now) (s .args .low .now) (s .pre .0) (s .args .job) (s .args .at) (s .args .out .now)
     (at-loop .loop .stack) (at-loop .loop .top) (at-loop .loop .to) (at-loop .loop .out) (at-loop .loop .inv) (s .pre .1 .1) (not-empty at-test)
-    (at-after .rule-after .result .now) (after at-after) (m .result) (k .last .0)
-    (m .ensures .is ∙ ap (λ (i : ℕ). rule-at (s .args .rules .now) i .move) (place (at-after .before .before)))
-    (k .ensures .output) (k .kept .0 ∙ at-loop .loop .inv .size)
+    (at-after .rule-after .result .now) (after at-after) (m .result) (k .last .0) (w .last .1 .1 .0)
+    (m .ensures .is ∙ ap (λ (i : ℕ). rule-at (s .args .rules .now) i .move) (place (at-after .before .before .before .before .before .before)))
+    (k .ensures .output) (k .kept .0 ∙ at-loop .loop .inv .size) (w .ensures) (w .kept .1 .1 .0)
 
 same-length : tie.Need-same-length Inv-loop μ-loop
 same-length c = c .before .loop .inv .same
@@ -172,8 +173,8 @@ run-job-spec =
     element-copy-out-wide
     wide-requires-2
     rule-move-requires
-    cast-out
-    slice-write-out
+    cast-put-number
+    put-number-requires
     add-to
     rule-after-requires
     add-top

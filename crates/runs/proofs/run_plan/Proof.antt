@@ -1,6 +1,6 @@
 -- `runs::run_plan` meets its contract. The loop's invariant: the moves written lead from the plan to the jobs left. Assumes nothing.
 use mathlib.Core.Path.{_≡_, refl, sym, _∙_, subst}
-use Prim.Native.Nat.{ℕ, _+_, _-_, _≤_, _<_}
+use Prim.Native.Nat.{ℕ, _+_, _*_, _-_, _≤_, _<_}
 use native.Mathlib.Omega.{arith}
 use borrow.Author.Needs.{needs}
 use lib.ListN.{length, getD, drop}
@@ -61,7 +61,7 @@ run-job-requires c κs =
       (
         subst (λ (j : ℕ). j < s .args .jobs) (sym (x .ensures .is))
             (below-at (s .args .jobs) p _ (s .pre .1 .0) (omega (arith, at-test .loop-test .taken, at-loop .loop .inv .0))),
-        subst (λ (m : ℕ). at-loop .loop .to + getD (norms t) (x .result) 0 ≤ m) (sym (at-loop .loop .inv .1))
+        subst (λ (m : ℕ). at-loop .loop .to + 2 * getD (norms t) (x .result) 0 ≤ m) (sym (at-loop .loop .inv .1))
             (plan-room t p (s .args .out .now) k (at-loop .loop .to) (at-loop .loop .out) (at-loop .loop .inv .2) (there at-test) (x .result) (x .ensures .is) (s .pre .1 .1)),
       ),
     )

@@ -22,7 +22,10 @@ capped-sum-requires c κs =
 cast-need : tie.Need-cast-need
 cast-need c = search needs
 
--- the bytes that are needed
+mul-need : tie.Need-mul-need
+mul-need c = search needs
+
+-- the norm of the plan
 need : (c : tie.After-capped-sum) →
     c .capped-sum .result ≡ norm (table-of (c .before .before .before .before .args .jobs) (c .before .before .before .before .args .rules .now)) (c .before .before .before .before .args .plan .now)
 need c =
@@ -67,6 +70,7 @@ shortest-run-spec =
     (tie.spec
     capped-sum-requires
     cast-need
+    mul-need
     returns
     choices-requires
     run-plan-requires

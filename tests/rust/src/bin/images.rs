@@ -3,20 +3,24 @@ use gindrazoma::raw::{read_image, write_image};
 use outside::area::Area;
 use outside::damage::damaged;
 use outside::harness::{Outcome, Suite};
-use outside::refusals::{of_image, of_list};
+use outside::old_format;
+use outside::refusals::{good_place, of_image, of_layout, of_list, places_of_image};
 use outside::rng::Rng;
-use outside::shapes::{Made, SHAPES};
-use outside::table::{image_of, rule, Table};
+use outside::shapes::{any_move, Made, EDGES, SHAPES};
+use outside::table::{image_of, rule, seal, Table};
 use outside::{ensure, ensure_eq};
 use std::process::ExitCode;
 
 fn main() -> ExitCode {
     let mut suite = Suite::new();
     suite.fixed("plans to try", plans_to_try);
+    suite.fixed("moves of two bytes", moves_of_two_bytes);
+    suite.fixed("the last byte of places", last_bytes_of_places);
     suite.random("accepted tables go there and back", 1500, there_and_back);
     suite.random("any rules", 4000, any_rules);
     suite.random("damaged images", 20000, damaged_images);
     suite.random("damaged rule lists", 20000, damaged_lists);
+    suite.random("both ages of image", 20000, both_ages);
     suite.random("norms of every size", 3000, norms_of_every_size);
     suite.finish()
 }
@@ -83,11 +87,43 @@ fn plans_to_try() -> Outcome {
         ensure_eq!(write_image(jobs as u32, &table.places(), &mut [0; 512]), expected, "{jobs} jobs");
         ensure_eq!(read_image(&table.image(), &mut [0; 2017]).min(0), expected.min(0), "{jobs} jobs");
     }
-    let many = Table { jobs: 1, rules: (0..253).map(|i| rule(0, i as u8, &[])).collect() };
+    let many = Table { jobs: 1, rules: (0..253).map(|i| rule(0, i, &[])).collect() };
     ensure_eq!(write_image(1, &many.places()[..252 * 8], &mut [0; 2048]), 2048, "252 rules");
     ensure_eq!(write_image(1, &many.places(), &mut [0; 4096]), -2, "253 rules");
     ensure_eq!(read_image(&[], &mut [0; 2017]), -2, "length 0");
     ensure_eq!(read_image(&[0; 2049], &mut [0; 2017]), -2, "length 2,049");
+    Ok(())
+}
+
+/// Byte 1 is the low and byte 7 the high byte of a move, written and read.
+fn moves_of_two_bytes() -> Outcome {
+    let mut rng = Rng::new(1);
+    let table = Table { jobs: 1, rules: EDGES.iter().map(|&a| rule(0, a, &[])).collect() };
+    let bytes: Vec<u8> = table.places().chunks(8).flat_map(|p| [p[1], p[7]]).collect();
+    ensure_eq!(bytes, [0, 0, 255, 0, 0, 1, 255, 255], "the moves {EDGES:?} in their places");
+    writes(&mut rng, 1, &table.places())?;
+    reads(&mut rng, &table.image())?;
+    // the worked place of docs/FORMAT.md
+    let t = Table::new(4, &[(0, 97, &[]), (1, 1000, &[0]), (2, 97, &[1]), (3, 98, &[0])]);
+    ensure_eq!(t.places()[8..16], [1, 232, 1, 0, 0, 0, 0, 3], "job 1, move 1,000, then job 0");
+    ensure_eq!(t.image()[510..], [34, 2], "the sum with it");
+    writes(&mut rng, 4, &t.places())?;
+    reads(&mut rng, &t.image())
+}
+
+/// It may be set in a place that is in use and in no other.
+fn last_bytes_of_places() -> Outcome {
+    let table = Table { jobs: 2, rules: (0..70).map(|i| rule(i % 2, 97, &[])).collect() };
+    for place in 0..126 {
+        for value in [1, 128, 255] {
+            let mut image = table.image();
+            let block = &mut image[512 * (place / 63)..][..512];
+            block[2 + 8 * (place % 63) + 7] = value;
+            seal(block);
+            let expected = if place < 70 { 561 } else { -5 };
+            ensure_eq!(read_image(&image, &mut [0; 2017]), expected, "byte 7 of place {place} set to {value}");
+        }
+    }
     Ok(())
 }
 
@@ -114,7 +150,7 @@ fn any_rules(rng: &mut Rng) -> Outcome {
     let rules = (0..count).map(|_| {
         let n = rng.below(after + 1);
         let w: Vec<u8> = (0..n).map(|_| rng.below(jobs) as u8).collect();
-        rule(rng.below(jobs) as u8, rng.byte(), &w)
+        rule(rng.below(jobs) as u8, any_move(rng, 97), &w)
     });
     let table = Table { jobs, rules: rules.collect() };
     writes(rng, jobs as u32, &table.places())?;
@@ -145,6 +181,50 @@ fn damaged_lists(rng: &mut Rng) -> Outcome {
         _ => table.jobs as u32,
     };
     writes(rng, jobs, &places)
+}
+
+/// An image with byte 7 of each place in use cleared.
+fn low_moves_only(image: &[u8]) -> Vec<u8> {
+    let mut image = image.to_vec();
+    for block in image.chunks_mut(512) {
+        (0..usize::from(block[1])).for_each(|i| block[2 + 8 * i + 7] = 0);
+        seal(block);
+    }
+    image
+}
+
+/// Whatever a reader of before did not refuse by 5 is read as it read it. What passes check 5 now with a larger move met 5;
+/// without the high bytes it would have been refused, or read, as it is now.
+fn both_ages(rng: &mut Rng) -> Outcome {
+    let mut image = Made::new(*rng.pick(&SHAPES), rng).table.image();
+    if rng.once_in(2) {
+        image = low_moves_only(&image);
+    }
+    if !rng.once_in(4) {
+        image = damaged(rng, &image);
+    }
+    let mut read = vec![0; 2017];
+    let answer = read_image(&image, &mut read);
+    read.truncate(answer.max(0) as usize);
+    let as_before = |old: Result<Table, u8>, read: &[u8]| -> Outcome {
+        ensure_eq!(answer, old.as_ref().map_or_else(|r| -i32::from(*r), |t| t.read().len() as i32), "an image of both ages");
+        ensure_eq!(read, old.map_or(Vec::new(), |t| t.read()), "the table of an image of both ages");
+        Ok(())
+    };
+    if answer > 0 {
+        let mut again = vec![0; image.len()];
+        ensure_eq!(write_image(read[0].into(), &read[1..], &mut again), image.len() as i32, "what was read is written again");
+        ensure_eq!(again, image, "the image of what was read");
+    }
+    let old = old_format::read(&image);
+    let passes = of_layout(&image, good_place) == 0;
+    let larger = passes && places_of_image(&image).chunks(8).any(|p| p[7] != 0);
+    ensure_eq!(old == Err(5) && passes, larger, "a reader of before refuses larger moves and no others");
+    if !larger {
+        return as_before(old, &read);
+    }
+    read.iter_mut().skip(8).step_by(8).for_each(|high| *high = 0);
+    as_before(old_format::read(&low_moves_only(&image)), &read)
 }
 
 /// Chains whose norms pass 512, and the sizes at which sums of few bytes wrap.

@@ -5,15 +5,15 @@ use outside::damage::damaged;
 use outside::harness::{Outcome, Suite};
 use outside::refusals::of_plans;
 use outside::rng::Rng;
-use outside::shapes::{Made, SHAPES};
-use outside::table::{norm, Plan, Table};
+use outside::shapes::{Made, EDGES, SHAPES};
+use outside::table::{rule, Plan, Table};
 use outside::{ensure, ensure_eq};
-use std::collections::HashSet;
 use std::process::ExitCode;
 
 fn main() -> ExitCode {
     let mut suite = Suite::new();
     suite.fixed("plans to try", plans_to_try);
+    suite.fixed("moves of two bytes", moves_of_two_bytes);
     suite.random("norms", 6000, norms);
     suite.random("every move of a plan", 1500, every_move);
     suite.random("shortest runs", 3000, shortest_runs);
@@ -26,7 +26,7 @@ fn main() -> ExitCode {
 fn doubling(jobs: usize) -> Table {
     let mut table = Table::new(jobs, &[(0, 97, &[])]);
     for k in 1..jobs as u8 {
-        table.rules.push(outside::table::rule(k, 97, &[k - 1, k - 1]));
+        table.rules.push(rule(k, 97, &[k - 1, k - 1]));
     }
     table
 }
@@ -48,12 +48,36 @@ fn plans_to_try() -> Outcome {
     ensure_eq!(plan_norm(&chain.image(), &[8]), 511, "job 8 of the doubling table");
     ensure_eq!(plan_norm(&doubling(10).image(), &[8]), -7, "job 9 of the doubling table");
     chain.jobs = 10;
-    chain.rules.push(outside::table::rule(9, 97, &[8]));
+    chain.rules.push(rule(9, 97, &[8]));
     let image = chain.image();
     ensure_eq!(plan_norm(&image, &[9]), 512, "a, then job 8");
     ensure_eq!(plan_norm(&image, &[9; 8]), 4096, "eight jobs of norm 512");
     ensure_eq!(plan_norm(&image, &[9, 9, 9, 9, 9, 9, 9, 9, 0]), -9, "a ninth job");
     Ok(())
+}
+
+/// Each as the only move of a job, and all of them as the moves of one: their bytes, low ones first.
+fn moves_of_two_bytes() -> Outcome {
+    let mut rng = Rng::new(1);
+    let mut rules: Vec<_> = (0..).zip(EDGES).map(|(j, a)| rule(j, a, &[])).collect();
+    rules.extend(EDGES.map(|a| rule(4, a, &[3])));
+    let made = Made::of_table(Table { jobs: 5, rules }).expect("an accepted table");
+    let image = made.table.image();
+    let bytes = [[0, 0], [255, 0], [0, 1], [255, 255]];
+    for (index, bytes) in (0..).zip(bytes) {
+        let mut out = [9; 6];
+        ensure_eq!(nth_move(&image, &[4, 1], index, &mut out), 4, "move {index} of job 4");
+        ensure_eq!(out, [bytes[0], bytes[1], 3, 1, 9, 9], "move {index} of job 4");
+    }
+    for len in 0..12 {
+        let (mut out, mut wanted) = ([9; 12], [9; 12]);
+        if len >= 8 {
+            wanted[..8].copy_from_slice(bytes.as_flattened());
+        }
+        ensure_eq!(shortest_run(&image, &[0, 1, 2, 3], &mut out[..len]), if len < 8 { -10 } else { 8 }, "a run into {len} bytes");
+        ensure_eq!(out, wanted, "a run into {len} bytes");
+    }
+    run_of(&mut rng, &made, &image, &[4, 4, 2])
 }
 
 fn norms(rng: &mut Rng) -> Outcome {
@@ -69,8 +93,8 @@ fn norms(rng: &mut Rng) -> Outcome {
     Ok(())
 }
 
-fn moves_at(rng: &mut Rng, image: &[u8], plan: &[u8], index: u32, wanted: Option<&(u8, Plan)>) -> Outcome {
-    let wanted: Plan = wanted.map_or(Vec::new(), |(a, rest)| [&[*a], &rest[..]].concat());
+fn moves_at(rng: &mut Rng, image: &[u8], plan: &[u8], index: u32, wanted: Option<&(u16, Plan)>) -> Outcome {
+    let wanted: Plan = wanted.map_or(Vec::new(), |(a, rest)| [&a.to_le_bytes(), &rest[..]].concat());
     let need = wanted.len();
     for len in [need, need + rng.below(50), need.saturating_sub(1), 0] {
         let mut out = Area::new(rng, len);
@@ -101,17 +125,6 @@ fn every_move(rng: &mut Rng) -> Outcome {
     moves_at(rng, &image, &[], 0, None)
 }
 
-/// Whether the moves can lead from the plan to the empty plan. Each must lower the norm, since they are as many.
-fn leads_to_end(table: &Table, norms: &[u64], plan: &[u8], run: &[u8]) -> bool {
-    let mut plans: HashSet<Plan> = HashSet::from([plan.to_vec()]);
-    for (i, &a) in run.iter().enumerate() {
-        let left = (run.len() - i - 1) as u64;
-        let next = plans.iter().flat_map(|p| table.moves(p)).filter(|(b, q)| *b == a && norm(norms, q) == left);
-        plans = next.map(|(_, q)| q).collect();
-    }
-    plans.contains(&Vec::new())
-}
-
 fn shortest_runs(rng: &mut Rng) -> Outcome {
     let made = Made::new(*rng.pick(&SHAPES), rng);
     let image = made.table.image();
@@ -120,15 +133,16 @@ fn shortest_runs(rng: &mut Rng) -> Outcome {
 }
 
 fn run_of(rng: &mut Rng, made: &Made, image: &[u8], plan: &[u8]) -> Outcome {
-    let need = made.norm(plan) as usize;
+    let norm = made.norm(plan) as usize;
+    let need = 2 * norm;
     let mut first = None;
-    for len in [need, need + rng.below(50), need.saturating_sub(1), 0] {
+    for len in [need, need + 1, need + rng.below(50), need.saturating_sub(1), need.saturating_sub(2), norm, 0] {
         let mut out = Area::new(rng, len);
         let expected = if len < need { -10 } else { need as i32 };
         ensure_eq!(shortest_run(image, plan, out.bytes()), expected, "run of {plan:?} into {len} bytes");
         let used = expected.max(0) as usize;
         let run = out.first(used).to_vec();
-        ensure!(expected < 0 || leads_to_end(&made.table, &made.norms, plan, &run), "{run:?} is no run of {plan:?}");
+        ensure!(expected < 0 || made.is_shortest_run(plan, &run), "{run:?} is no run of {plan:?}");
         ensure!(out.kept_beyond(used), "bytes beyond the output have changed");
         if expected >= 0 {
             ensure_eq!(first.get_or_insert(run.clone()), &run, "the run given a second time");
@@ -142,9 +156,9 @@ fn long_plans(rng: &mut Rng) -> Outcome {
     let image = made.table.image();
     let plan = made.plan_of_norm(rng, 4096);
     ensure_eq!(plan_norm(&image, &plan), 4096, "a plan of norm 4,096");
-    let mut out = vec![0; 4100];
-    ensure_eq!(shortest_run(&image, &plan, &mut out), 4096, "its run");
-    ensure_eq!(shortest_run(&image, &plan, &mut out[..4095]), -10, "its run into 4,095 bytes");
+    let mut out = vec![0; 8200];
+    ensure_eq!(shortest_run(&image, &plan, &mut out), 8192, "its run");
+    ensure_eq!(shortest_run(&image, &plan, &mut out[..8191]), -10, "its run into 8,191 bytes");
     let longer = [&plan[..], &[rng.below(made.table.jobs) as u8]].concat();
     ensure_eq!(plan_norm(&image, &longer), -9, "one job more");
     ensure_eq!(nth_move(&image, &longer, 0, &mut out), -9, "a move of it");

@@ -19,6 +19,7 @@ fn main() -> ExitCode {
     let mut suite = Suite::new();
     suite.fixed("plans to try", plans_to_try);
     suite.fixed("planners' mistakes", planners_mistakes);
+    suite.fixed("moves of two bytes", moves_of_two_bytes);
     for shape in SHAPES {
         let count = match shape {
             Shape::Full => 40,
@@ -194,6 +195,21 @@ fn planners_mistakes() -> Outcome {
     // rules matched one to one
     let twice = Table::new(3, &[(0, 97, &[2]), (1, 97, &[2]), (1, 97, &[2]), (1, 97, &[2]), (2, 98, &[])]);
     answers(&twice, &[(&[0], &[1], true), (&[0, 1], &[1, 0], true)])
+}
+
+/// Jobs of one move each, and a copy of each: two are the same exactly if their moves are equal in both bytes.
+fn moves_of_two_bytes() -> Outcome {
+    let moves = [0, 97, 255, 256, 353, 511, 24929, 65280, 65377, 65535];
+    let count = moves.len() as u8;
+    let rules = (0..2 * count).map(|j| rule(j, moves[usize::from(j % count)], &[])).collect();
+    let table = Table { jobs: moves.len() * 2, rules };
+    for j in 0..2 * count {
+        for k in 0..2 * count {
+            answers(&table, &[(&[j], &[k], j % count == k % count), (&[j, k], &[k, j], j % count == k % count)])?;
+        }
+        forms(&table, &[(&[j, 0], &[j % count, 0])])?;
+    }
+    Ok(())
 }
 
 fn long_plans(rng: &mut Rng) -> Outcome {

@@ -1,5 +1,5 @@
 -- `image_check::places::place_good` meets its contract. Assumes nothing.
-use mathlib.Core.Path.{_≡_, sym, _∙_}
+use mathlib.Core.Path.{_≡_, sym, ap, _∙_}
 use mathlib.Core.Bool.{false, _&&_}
 use mathlib.Core.List.{List}
 use Prim.Native.Nat.{ℕ, _+_, _-_, _≤_, _<_}
@@ -7,8 +7,7 @@ use lib.ListN.{length, getD, take, drop}
 use borrow.Author.Tests.{lt-ltb, le-ltb, le-leb, lt-leb}
 use Rattle.bpa.specs.Plans.{all-below}
 use Rattle.rules.specs.Places.{all-zero, place-good}
-use lib.ListN.{length-drop}
-use lib.Seq.{take-all}
+use Rattle.image.proofs.PlaceRows.{drop-take}
 use borrow.Author.Needs.{needs}
 use native.Mathlib.Omega.{arith}
 use Rattle.image_check.proofs.places.place_good.Statement.{statement}
@@ -24,14 +23,14 @@ count-bad n xs h k = rw (lt-ltb (getD xs 0 0) n h, lt-leb (getD xs 2 0) 4 k)
 
 -- the parts that the code looks at once the job and the number of jobs after are good
 rest : (n : ℕ) (xs : List ℕ) (a : ℕ) → length xs ≡ 8 → a ≡ getD xs 2 0 → getD xs 0 0 < n → getD xs 2 0 ≤ 4
-    → place-good n xs ≡ (all-below n (take (3 + a - 3) (drop 3 xs)) && all-zero (take (8 - (3 + a)) (drop (3 + a) xs)))
+    → place-good n xs ≡ (all-below n (take (3 + a - 3) (drop 3 xs)) && all-zero (take (7 - (3 + a)) (drop (3 + a) xs)))
 unfolding place-good
 rest n xs a l e h k =
     let few : a ≤ 4 = omega arith in
-    let whole : take 8 xs ≡ xs = take-all 8 xs (omega arith) in
-    let tail : take (8 - (3 + a)) (drop (3 + a) xs) ≡ drop (3 + a) xs = take-all (8 - (3 + a)) (drop (3 + a) xs) (simp length-drop (omega arith)) in
+    let end : 3 + a + (7 - (3 + a)) ≡ 7 = omega arith in
+    let tail : take (7 - (3 + a)) (drop (3 + a) xs) ≡ drop (3 + a) (take 7 xs) = sym (drop-take (3 + a) (7 - (3 + a)) xs) ∙ ap (λ m. drop (3 + a) (take m xs)) end in
     let after : 3 + a - 3 ≡ a = omega arith in
-    rw (lt-ltb (getD xs 0 0) n h, le-leb (getD xs 2 0) 4 k, whole, tail, after, e)
+    rw (lt-ltb (getD xs 0 0) n h, le-leb (getD xs 2 0) 4 k, tail, after, e)
 
 shared-slice-read-wide : tie.Need-shared-slice-read-wide
 shared-slice-read-wide c = search needs

@@ -4,7 +4,7 @@ use mathlib.Core.Bool.{true, _&&_}
 use mathlib.Core.List.{List}
 use Prim.Native.Nat.{ℕ, suc, _+_, _*_, _-_, _≤_, _<_}
 use lib.ListN.{length, take, drop}
-use Rattle.rules.specs.Places.{place-good, places-good}
+use Rattle.rules.specs.Places.{place-good, each-place, places-good}
 use native.Mathlib.Nat.{sub-zero}
 use lib.ListN.{length-take, length-drop}
 use lib.Seq.{drop-drop}
@@ -17,7 +17,7 @@ part-length xs a h = simp (length-take, length-drop) (omega arith)
 
 one-more : (count n : ℕ) (xs : List ℕ) (k : ℕ) → k < count
     → places-good (count - k) n (drop (8 * k) xs) ≡ (place-good n (take (8 * k + 8 - 8 * k) (drop (8 * k) xs)) && places-good (count - (k + 1)) n (drop (8 * (k + 1)) xs))
-unfolding places-good
+unfolding places-good each-place
 one-more count n xs k h =
     let left : count - k ≡ suc (count - (k + 1)) = omega arith in
     let eight : 8 * k + 8 - 8 * k ≡ 8 = omega arith in
@@ -25,7 +25,7 @@ one-more count n xs k h =
     rw (left, eight, next, ← drop-drop 8 (8 * k) xs)
 
 no-more : (n : ℕ) (xs : List ℕ) → places-good 0 n xs ≡ true
-unfolding places-good
+unfolding places-good each-place
 no-more n xs = refl
 
 abbrev Inv-loop : tie.InvT-loop

@@ -1,0 +1,2 @@
+-- The format of images before moves had two bytes.
+pub mod OldFormat

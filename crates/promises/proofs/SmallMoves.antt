@@ -1,0 +1,33 @@
+-- The moves of an image of bytes are numbers of two bytes, and so are those of its runs. Assumes nothing.
+use mathlib.Core.Path.{_≡_, ap}
+use mathlib.Core.Bool.{true}
+use mathlib.Core.List.{List, [], _∷_, List·Memᴰ, List·Memᴰ·not-nil, List·Memᴰ·cases-cons}
+use mathlib.Core.Logic.{⊎-elim}
+use Prim.Native.Nat.{ℕ, _+_, _*_, _<_}
+use native.Mathlib.Omega.{arith}
+use Rattle.bpa.specs.Plans.{Rule, all-below, HasRule, Step, Runs, empty-run, longer-run}
+use Rattle.bpa.proofs.Basics.JobsBelow.{below-at}
+use Rattle.rules.proofs.PlaceLaws.{room, move-at}
+use Rattle.rules.proofs.ListLaws.{place-of-rule}
+use Rattle.image.specs.Image.{image-jobs, image-places, table-in}
+use Rattle.image.proofs.ByteRows.{places-bytes}
+
+module _ (bs : List ℕ) (bytes : all-below 256 bs ≡ true) where
+  rule-small : (j a : ℕ) (w : List ℕ) → HasRule (table-in bs) j a w → a < 65536
+  unfolding table-in
+  rule-small j a w r =
+      let rs = image-places bs in
+      let (i, l, e) = place-of-rule (image-jobs bs) rs j a w r in
+      let whole = room rs i l in
+      let low = below-at 256 rs (8 * i + 1) (places-bytes bs bytes) (omega arith) in
+      let high = below-at 256 rs (8 * i + 7) (places-bytes bs bytes) (omega arith) in
+      omega (arith, ap (λ (x : Rule). x .move) e, move-at rs i)
+
+  pub step-small : (p q : List ℕ) (a : ℕ) → Step (table-in bs) p a q → a < 65536
+  step-small [] q a s = absurd s
+  step-small (j ∷ js) q a (w, r, e) = rule-small j a w r
+
+  pub run-small : {p run end : List ℕ} → Runs (table-in bs) p run end → (v : ℕ) → List·Memᴰ v run → v < 65536
+  run-small (empty-run p) v m = absurd (List·Memᴰ·not-nil m)
+  run-small (longer-run p q a more end s r) v m =
+      ⊎-elim (λ (e : v ≡ a). omega (arith, step-small p q a s)) (λ k. run-small r v k) (List·Memᴰ·cases-cons m)
