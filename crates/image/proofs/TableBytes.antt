@@ -6,17 +6,24 @@ use Prim.Native.Nat.{ℕ, zero, suc, _+_, _*_, _-_, _/_, _%_, _≤_, _<_}
 use native.Mathlib.Omega.{arith}
 use lib.Dec.{ltb, leb}
 use lib.ListN.{length, getD, take, drop, replicate, length-drop, drop-of-length-le, take-append-drop}
-use lib.Seq.{length-take-le, take-all, take-add, drop-append-le, drop-drop, drop-cons, getD-take}
+use lib.Seq.{length-take-le, take-all, take-add, drop-append-le, drop-drop, drop-cons}
 use borrow.Author.Tests.{leb-true}
 use Rattle.bpa.specs.Plans.{all-below, over}
 use Rattle.rules.specs.Places.{all-zero, move-in, rule-in, place-good, each-place, places-good, rules-in, rule-count, table-of, place-of, places-of, table-bytes}
 use Rattle.rules.specs.Lists.{GoodList}
 use Rattle.image.specs.Image.{image-jobs, image-places, table-in, layout-refusal}
 use Rattle.bpa.proofs.Basics.Cases.{and-left, and-right}
-use Rattle.bpa.proofs.Basics.JobsBelow.{below-at}
-use Rattle.image.proofs.ByteRows.{byte-drop, places-bytes}
+use Rattle.image.proofs.ByteRows.{byte-drop, places-bytes, first-low}
 use Rattle.image.proofs.Zeros.{zeros-are}
 use Rattle.image.proofs.ImageList.{image-good-list}
+
+-- at most four jobs stand after the move of a good place
+pub after-few : (n : ℕ) (y : List ℕ) → place-good n y ≡ true → getD y 2 0 ≤ 4
+unfolding place-good
+after-few n y good =
+    let c = getD y 2 0 in
+    leb-true c 4 (and-right (ltb (getD y 0 0) n) (leb c 4)
+    (and-left (ltb (getD y 0 0) n && leb c 4) (all-below n (take c (drop 3 y)) && all-zero (drop (3 + c) (take 7 y))) good))
 
 -- a good place is the place of its rule, if the low part of the move is a byte
 module _ (n : ℕ) (y : List ℕ) (size : length y ≡ 8) (low : getD y 1 0 < 256) (good : place-good n y ≡ true) where
@@ -27,10 +34,7 @@ module _ (n : ℕ) (y : List ℕ) (size : length y ≡ 8) (low : getD y 1 0 < 25
   after = take count (drop 3 y)
 
   few : count ≤ 4
-  unfolding place-good
-  few =
-      leb-true count 4 (and-right (ltb (getD y 0 0) n) (leb count 4)
-      (and-left (ltb (getD y 0 0) n && leb count 4) (all-below n after && all-zero (drop (3 + count) (take 7 y))) good))
+  few = after-few n y good
 
   front-length : length (take 7 y) ≡ 7
   front-length = length-take-le 7 y (omega arith)
@@ -71,8 +75,7 @@ places-back : (k n : ℕ) (xs : List ℕ) → 8 * k ≤ length xs → all-below 
 unfolding places-good each-place rules-in places-of over
 places-back zero n xs room bytes good = refl
 places-back (suc k) n xs room bytes good =
-    let low : getD (take 8 xs) 1 0 < 256 = omega (arith, getD-take 8 xs 1 0 (omega arith), below-at 256 xs 1 bytes (omega arith)) in
-    let first = place-back n (take 8 xs) (length-take-le 8 xs (omega arith)) low (and-left (place-good n (take 8 xs)) (places-good k n (drop 8 xs)) good) in
+    let first = place-back n (take 8 xs) (length-take-le 8 xs (omega arith)) (first-low xs bytes (omega arith)) (and-left (place-good n (take 8 xs)) (places-good k n (drop 8 xs)) good) in
     let later = places-back k n (drop 8 xs) (simp length-drop (omega arith)) (byte-drop 8 xs bytes) (and-right (place-good n (take 8 xs)) (places-good k n (drop 8 xs)) good) in
     let next : 8 + 8 * k ≡ 8 * suc k = omega arith in
     (λ i. first i ++ later i) ∙ sym (take-add 8 (8 * k) xs) ∙ ap (λ m. take m xs) next

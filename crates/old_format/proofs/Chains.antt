@@ -30,10 +30,6 @@ behind-same {f} {f′} {g} {g′} h later other =
     chain e (λ z. later (sym e ∙ z))
 
 -- the last check once the earlier ones are past
-pub past : (b : Bool) (r x : ℕ) → b ≡ true → cond (not b) r x ≡ x
-past true r x h = refl
-past false r x h = absurd (true≢false (sym h))
-
 pub five-last : (q : Bool) → (last q ≡ 5) ↔ (q ≡ false)
 five-last true = (λ e. absurd (omega arith), λ e. absurd (true≢false e))
 five-last false = (λ e. refl, λ e. refl)

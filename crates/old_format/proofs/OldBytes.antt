@@ -1,21 +1,17 @@
 -- The bytes of a table that the old format took: those that it gave are those of today, the job count and the rules as they stand. Assumes nothing.
 use mathlib.Core.Path.{_≡_, refl, sym, ap, ap₂, _∙_}
-use mathlib.Core.Bool.{true, _&&_}
+use mathlib.Core.Bool.{true}
 use mathlib.Core.List.{List, [], _∷_, _++_}
 use Prim.Native.Nat.{ℕ, zero, suc, _+_, _*_, _-_, _/_, _%_, _≤_, _<_}
 use native.Mathlib.Omega.{arith}
-use lib.Dec.{ltb, leb}
 use lib.ListN.{length, getD, take, drop, replicate, length-take, length-drop, replicate-append-replicate}
-use lib.Seq.{getD-take}
-use borrow.Author.Tests.{leb-true}
 use Rattle.bpa.specs.Plans.{all-below, over}
 use Rattle.bpa.proofs.Basics.Cases.{and-left, and-right}
-use Rattle.bpa.proofs.Basics.JobsBelow.{below-at}
-use Rattle.rules.specs.Places.{move-in, rule-in, place-good, each-place, rules-in, rule-count, place-of, places-of, table-of, table-bytes}
+use Rattle.rules.specs.Places.{move-in, rule-in, each-place, rules-in, rule-count, place-of, places-of, table-of, table-bytes}
 use Rattle.image.specs.Image.{image-jobs, image-places}
 use Rattle.image.proofs.ListRefusal.{good-list}
-use Rattle.image.proofs.ByteRows.{byte-drop, places-bytes}
-use Rattle.image.proofs.TableBytes.{bytes-of-list}
+use Rattle.image.proofs.ByteRows.{byte-drop, places-bytes, first-low}
+use Rattle.image.proofs.TableBytes.{after-few, bytes-of-list}
 use Rattle.old_format.specs.OldFormat.{old-rule-in, old-rules-in, old-table-of, old-place-of, old-places-of, old-table-bytes, old-place-good, old-layout-refusal, old-table-in, old-list-refusal}
 use Rattle.old_format.proofs.OldPlaces.{old-is-good, high-zero}
 use Rattle.old_format.proofs.OldLists.{list-same, old-places-pass}
@@ -27,10 +23,7 @@ module _ (n : ℕ) (y : List ℕ) (low : getD y 1 0 < 256) (h : old-place-good n
   after = take (getD y 2 0) (drop 3 y)
 
   few : length after ≤ 4
-  unfolding place-good
-  few =
-      let c = leb-true (getD y 2 0) 4 (and-right (ltb (getD y 0 0) n) (leb (getD y 2 0) 4) (and-left (ltb (getD y 0 0) n && leb (getD y 2 0) 4) _ (old-is-good n y h))) in
-      simp length-take (omega arith)
+  few = let c = after-few n y (old-is-good n y h) in simp length-take (omega arith)
 
   old-place-same : old-place-of (old-rule-in y) ≡ place-of (rule-in y)
   unfolding old-place-of old-rule-in place-of rule-in move-in
@@ -50,8 +43,7 @@ old-places-same n zero xs room bytes h = refl
 old-places-same n (suc k) xs room bytes h =
     let first = old-place-good n (take 8 xs) in
     let later = each-place (old-place-good n) k (drop 8 xs) in
-    let low : getD (take 8 xs) 1 0 < 256 = omega (arith, getD-take 8 xs 1 0 (omega arith), below-at 256 xs 1 bytes (omega arith)) in
-    ap₂ _++_ (old-place-same n (take 8 xs) low (and-left first later h))
+    ap₂ _++_ (old-place-same n (take 8 xs) (first-low xs bytes (omega arith)) (and-left first later h))
     (old-places-same n k (drop 8 xs) (simp length-drop (omega arith)) (byte-drop 8 xs bytes) (and-right first later h))
 
 pub old-list-bytes : (n : ℕ) (rs : List ℕ) → all-below 256 rs ≡ true → old-list-refusal n rs ≡ 0 → old-table-bytes (old-table-of n rs) ≡ n ∷ rs

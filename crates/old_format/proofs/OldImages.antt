@@ -9,21 +9,20 @@ use native.Mathlib.Omega.{arith}
 use lib.ListN.{getD, take, drop}
 use Rattle.bpa.specs.Plans.{Rule, all-below, HasRule}
 use Rattle.bpa.proofs.Basics.Cases.{and-left, and-right, and-both}
-use Rattle.bpa.proofs.Basics.JobsBelow.{below-at}
 use Rattle.rules.specs.Places.{all-zero, place-good, each-place, places-good, rule-at, rule-count}
-use Rattle.rules.proofs.PlaceLaws.{room, move-at}
+use Rattle.rules.proofs.PlaceLaws.{move-at}
 use Rattle.rules.proofs.ListLaws.{rule-of, place-of-rule}
 use Rattle.refusal.specs.Refusals.{table-refusal}
 use Rattle.image.specs.Image.{block, blocks-in, rules-in-block, each-block, length-good, sum-good, head-good, places-of-block, block-good, layout-refusal, image-refusal, image-jobs, image-places, table-in}
-use Rattle.image.proofs.Refusals.{passed}
+use Rattle.image.proofs.Refusals.{passed, past}
 use Rattle.image.proofs.Blocks.{each-one, each-all}
 use Rattle.image.proofs.AcceptedImages.{LaidOut, laid-out}
-use Rattle.image.proofs.ByteRows.{places-bytes}
+use Rattle.image.proofs.ByteRows.{place-byte}
 use Rattle.image.proofs.HeldTable.{image-each, image-listed}
 use Rattle.old_format.specs.OldFormat.{old-place-good, old-places-good, old-places-of-block, old-block-good, old-layout-refusal, old-table-in, old-image-refusal, old-list-refusal}
-use Rattle.old_format.proofs.Chains.{last-same, earlier-same, behind-same, past, five-first, other-table}
+use Rattle.old_format.proofs.Chains.{last-same, earlier-same, behind-same, five-first, other-table}
 use Rattle.old_format.proofs.OldPlaces.{old-rows-good}
-use Rattle.old_format.proofs.OldLists.{old-last, list-table-same, five-by-high}
+use Rattle.old_format.proofs.OldLists.{High, old-last, list-table-same, five-by-high}
 
 each-same : (f g : ℕ → Bool) (n k : ℕ) → ((j : ℕ) → k ≤ j → j < k + n → f j ≡ g j) → each-block f n k ≡ each-block g n k
 unfolding each-block
@@ -52,7 +51,7 @@ module _ (bs : List ℕ) where
   blocks-taken h =
       each-all (block-good bs) (blocks-in bs) 0 (λ k low high. block-taken k (each-one (old-block-good bs) (blocks-in bs) 0 h k low high))
 
-  pub layout-same : (old-layout-refusal bs ≡ 5 → ⊥) → layout-refusal bs ≡ old-layout-refusal bs
+  layout-same : (old-layout-refusal bs ≡ 5 → ⊥) → layout-refusal bs ≡ old-layout-refusal bs
   unfolding layout-refusal old-layout-refusal
   layout-same =
       earlier-same (length-good bs) 2 (earlier-same (each-block (sum-good bs) (blocks-in bs) 0) 3
@@ -89,7 +88,7 @@ module _ (bs : List ℕ) where
 
   -- an image that the old reader took
   module _ (h : old-layout-refusal bs ≡ 0) where
-    pub layout-taken : layout-refusal bs ≡ 0
+    layout-taken : layout-refusal bs ≡ 0
     layout-taken = layout-same (λ e. omega arith) ∙ h
 
     pub list-taken : old-list-refusal (image-jobs bs) (image-places bs) ≡ 0
@@ -104,10 +103,7 @@ module _ (bs : List ℕ) where
   image-same = behind-same layout-same (λ h. ap table-refusal (image-table-same h))
 
   -- LARGER MOVES: an image past refusals 2 to 5 today is refused by the old reader by 5 exactly if byte 7 of some place in use is not zero
-  abbrev pub High : Type 0
-  High = (i : ℕ) × (i < rule-count (image-places bs)) × (0 < getD (image-places bs) (8 * i + 7) 0)
-
-  pub image-five : layout-refusal bs ≡ 0 → (old-image-refusal bs ≡ 5) ↔ High
+  pub image-five : layout-refusal bs ≡ 0 → (old-image-refusal bs ≡ 5) ↔ High (image-places bs)
   unfolding old-image-refusal
   image-five h =
       let e = layout-by-list h in
@@ -117,20 +113,17 @@ module _ (bs : List ℕ) where
 
   -- and that is: exactly if its table has a move above 255
   module _ (bytes : all-below 256 bs ≡ true) (h : layout-refusal bs ≡ 0) where
-    low-byte : (i : ℕ) → i < rule-count (image-places bs) → getD (image-places bs) (8 * i + 1) 0 < 256
-    low-byte i l = below-at 256 (image-places bs) (8 * i + 1) (places-bytes bs bytes) (omega (arith, room (image-places bs) i l))
-
-    larger : High → (j a : ℕ) × (w : List ℕ) × HasRule (table-in bs) j a w × (255 < a)
+    larger : High (image-places bs) → (j a : ℕ) × (w : List ℕ) × HasRule (table-in bs) j a w × (255 < a)
     unfolding table-in
     larger (i, l, p) =
         let r = rule-at (image-places bs) i in
         (r .job, r .move, r .after, rule-of (image-jobs bs) (image-places bs) i l, omega (arith, move-at (image-places bs) i))
 
-    high : (j a : ℕ) (w : List ℕ) → HasRule (table-in bs) j a w → 255 < a → High
+    high : (j a : ℕ) (w : List ℕ) → HasRule (table-in bs) j a w → 255 < a → High (image-places bs)
     unfolding table-in
     high j a w r p =
         let (i, l, e) = place-of-rule (image-jobs bs) (image-places bs) j a w r in
-        (i, l, omega (arith, ap (λ (x : Rule). x .move) e, move-at (image-places bs) i, low-byte i l))
+        (i, l, omega (arith, ap (λ (x : Rule). x .move) e, move-at (image-places bs) i, place-byte bs bytes i 1 l (omega arith)))
 
     pub larger-five : (old-image-refusal bs ≡ 5) ↔ ((j a : ℕ) × (w : List ℕ) × HasRule (table-in bs) j a w × (255 < a))
     larger-five = (

@@ -15,10 +15,14 @@ use Rattle.rules.proofs.ListLaws.{each-at, good-place}
 use Rattle.refusal.specs.Refusals.{table-refusal}
 use Rattle.image.specs.Writing.{list-refusal, write-refusal}
 use Rattle.image.proofs.ListRefusal.{good-list}
-use Rattle.image.proofs.Refusals.{passed}
+use Rattle.image.proofs.Refusals.{passed, past}
 use Rattle.old_format.specs.OldFormat.{old-table-of, old-place-good, old-places-good, old-list-refusal, old-write-refusal}
-use Rattle.old_format.proofs.Chains.{last-same, earlier-same, behind-same, past, five-last}
+use Rattle.old_format.proofs.Chains.{last-same, earlier-same, behind-same, five-last}
 use Rattle.old_format.proofs.OldPlaces.{high-there, high-refused, old-rows-good, same-rules, fails-somewhere}
+
+-- byte 7 of some place is not zero
+abbrev pub High : (rules : List ℕ) → Type 0
+High rs = (i : ℕ) × (i < rule-count rs) × (0 < getD rs (8 * i + 7) 0)
 
 module _ (n : ℕ) (rs : List ℕ) where
   abbrev sized : Bool
@@ -62,16 +66,13 @@ module _ (n : ℕ) (rs : List ℕ) where
         let second = passed jobs-fit 4 _ (omega arith) (first .1) in
         past sized 2 _ (first .0) ∙ past jobs-fit 4 _ (second .0)
 
-    abbrev High : Type 0
-    High = (i : ℕ) × (i < rule-count rs) × (0 < getD rs (8 * i + 7) 0)
-
-    high-then : old-good ≡ false → High
+    high-then : old-good ≡ false → High rs
     high-then e =
         let (i, l, d) = fails-somewhere (old-place-good n) (rule-count rs) rs e in
         let good = good-place (rule-count rs) n rs i (good-list n rs h .places) l in
         (i, l, omega (arith, byte-at rs i 7 (omega arith), high-there n (take 8 (drop (8 * i) rs)) good d))
 
-    then-high : High → old-good ≡ false
+    then-high : High rs → old-good ≡ false
     then-high (i, l, p) = go (each-place (old-place-good n) (rule-count rs) rs) refl
       where
         go : (b : Bool) → each-place (old-place-good n) (rule-count rs) rs ≡ b → each-place (old-place-good n) (rule-count rs) rs ≡ false
@@ -79,7 +80,7 @@ module _ (n : ℕ) (rs : List ℕ) where
         go true e =
             absurd (high-refused n (take 8 (drop (8 * i) rs)) (omega (arith, byte-at rs i 7 (omega arith))) (each-at (old-place-good n) (rule-count rs) rs i e l))
 
-    pub five-by-high : (old-list-refusal n rs ≡ 5) ↔ High
+    pub five-by-high : (old-list-refusal n rs ≡ 5) ↔ High rs
     five-by-high = (
       λ e. high-then (five-last old-good .0 (sym old-last ∙ e)),
       λ p. old-last ∙ five-last old-good .1 (then-high p),

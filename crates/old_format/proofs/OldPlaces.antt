@@ -35,7 +35,7 @@ one-more true false a z z′ s h = refl
 one-more true true a z z′ s h = ap (λ (b : Bool). a && b) (h refl) ∙ sym (and-assoc a z′ s)
 
 -- THE OLD CHECK of a place is today's, and that byte 7 is zero
-pub old-place : (n : ℕ) (xs : List ℕ) → old-place-good n xs ≡ (place-good n xs && eqb (getD xs 7 0) 0)
+old-place : (n : ℕ) (xs : List ℕ) → old-place-good n xs ≡ (place-good n xs && eqb (getD xs 7 0) 0)
 unfolding old-place-good place-good
 old-place n xs =
     let c = getD xs 2 0 in
@@ -64,11 +64,7 @@ pub high-there : (n : ℕ) (xs : List ℕ) → place-good n xs ≡ true → old-
 high-there n xs g h =
     let none : getD xs 7 0 ≡ 0 → ⊥ =
     λ e. true≢false (sym (old-place n xs ∙ and-both (place-good n xs) (eqb (getD xs 7 0) 0) g (eq-eqb (getD xs 7 0) 0 e)) ∙ h) in
-    positive (getD xs 7 0) none
-  where
-    positive : (v : ℕ) → (v ≡ 0 → ⊥) → 0 < v
-    positive zero h = absurd (h refl)
-    positive (suc v) h = omega arith
+    omega arith
 
 pub high-refused : (n : ℕ) (xs : List ℕ) → 0 < getD xs 7 0 → old-place-good n xs ≡ true → ⊥
 high-refused n xs h o = omega (arith, high-zero n xs o)

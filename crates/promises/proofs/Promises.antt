@@ -17,12 +17,9 @@ use Rattle.bpa.proofs.Answers.{enough-rounds, same-exact, same-equivalent, any-
 use Rattle.bpa.proofs.Answers as answers
 use Rattle.bpa.proofs.Norm.NormFewest as fewest
 use Rattle.rules.specs.Places.{table-of, table-bytes}
-use Rattle.answer.proofs.RefusalChains.{neither}
-use Rattle.refusal.specs.Refusals.{table-refusal}
 use Rattle.refusal.proofs.TableRefusals.{six-exact, seven-exact}
 use Rattle.image.specs.Image.{image-refusal, image-jobs, image-places, table-in}
-use Rattle.image.specs.Writing.{list-refusal, write-refusal, written}
-use Rattle.image.proofs.ListRefusal.{good-list}
+use Rattle.image.specs.Writing.{write-refusal, written}
 use Rattle.image.proofs.TableBytes.{bytes-of-list, bytes-of-image}
 use Rattle.image.proofs.ImageBack as images
 use Rattle.image.proofs.TableBack as tables
@@ -65,15 +62,11 @@ images-tell bs cs k l = (
   ap table-in,
 )
 
-write-listed : (n : ℕ) (rs : List ℕ) → write-refusal n rs ≡ 0 → list-refusal n rs ≡ 0
-unfolding write-refusal
-write-listed n rs h = neither (list-refusal n rs) (table-refusal (table-of n rs)) h .0
-
 pub table-back : promised.Table-back
 unfolding promised.Table-back promised.all-bytes
 table-back n rs b h = (
-  record { bytes = written-bytes n rs (good-list n rs (write-listed n rs h) .jobs) b; passed = tables.table-back n rs h },
-  ap table-bytes (tables.table-held n rs (good-list n rs (write-listed n rs h))) ∙ bytes-of-list n rs (good-list n rs (write-listed n rs h)) b,
+  record { bytes = written-bytes n rs (tables.good n rs h .jobs) b; passed = tables.table-back n rs h },
+  ap table-bytes (tables.table-held n rs (tables.good n rs h)) ∙ bytes-of-list n rs (tables.good n rs h) b,
 )
 
 -- SOURCES OF TABLES

@@ -3,14 +3,13 @@ use mathlib.Core.Path.{_≡_, ap}
 use mathlib.Core.Bool.{true}
 use mathlib.Core.List.{List, [], _∷_, List·Memᴰ, List·Memᴰ·not-nil, List·Memᴰ·cases-cons}
 use mathlib.Core.Logic.{⊎-elim}
-use Prim.Native.Nat.{ℕ, _+_, _*_, _<_}
+use Prim.Native.Nat.{ℕ, _<_}
 use native.Mathlib.Omega.{arith}
 use Rattle.bpa.specs.Plans.{Rule, all-below, HasRule, Step, Runs, empty-run, longer-run}
-use Rattle.bpa.proofs.Basics.JobsBelow.{below-at}
-use Rattle.rules.proofs.PlaceLaws.{room, move-at}
+use Rattle.rules.proofs.PlaceLaws.{move-at}
 use Rattle.rules.proofs.ListLaws.{place-of-rule}
 use Rattle.image.specs.Image.{image-jobs, image-places, table-in}
-use Rattle.image.proofs.ByteRows.{places-bytes}
+use Rattle.image.proofs.ByteRows.{place-byte}
 
 module _ (bs : List ℕ) (bytes : all-below 256 bs ≡ true) where
   rule-small : (j a : ℕ) (w : List ℕ) → HasRule (table-in bs) j a w → a < 65536
@@ -18,9 +17,8 @@ module _ (bs : List ℕ) (bytes : all-below 256 bs ≡ true) where
   rule-small j a w r =
       let rs = image-places bs in
       let (i, l, e) = place-of-rule (image-jobs bs) rs j a w r in
-      let whole = room rs i l in
-      let low = below-at 256 rs (8 * i + 1) (places-bytes bs bytes) (omega arith) in
-      let high = below-at 256 rs (8 * i + 7) (places-bytes bs bytes) (omega arith) in
+      let low = place-byte bs bytes i 1 l (omega arith) in
+      let high = place-byte bs bytes i 7 l (omega arith) in
       omega (arith, ap (λ (x : Rule). x .move) e, move-at rs i)
 
   pub step-small : (p q : List ℕ) (a : ℕ) → Step (table-in bs) p a q → a < 65536
