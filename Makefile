@@ -3,14 +3,15 @@
 # make test       every proof, then the tests over the archive; the last line is 'N passed, M failed'
 # make bench      times beside ordinary Rust programs; make callgrind: instructions a call
 # make soak       random tests for SECONDS= from a printed seed, or from SEED=
-# make ages       answers of an archive from before version 2.0.0, OLD=, beside this one's on images of before
+# make ages       answers of an older archive, OLD=, of version AGE= (1 or 2), beside this one's on images from before version 2.0.0
 # make install    into PREFIX=, below DESTDIR=
 # make clean
 
 PREFIX ?= /usr/local
 DESTDIR ?=
 SECONDS ?= 300
-VERSION = 2.0.0
+AGE ?= 1
+VERSION = 3.0.0
 
 ARCHIVE ?= target/staticlib/libgindrazoma.a
 PLANLOOK ?= target/bin/planlook
@@ -107,7 +108,7 @@ bench: $(ARCHIVE)
 	@build/cargo/timing/bench
 
 # the norm alone: make callgrind COUNTED=norm-calls
-COUNTED = norm-calls compare-calls
+COUNTED = norm-calls move-calls compare-calls
 
 callgrind: $(ARCHIVE)
 	@$(CARGO) build -q --profile timing -p bench $(addprefix --bin ,$(COUNTED))
@@ -120,10 +121,10 @@ soak: $(ARCHIVE)
 	done; exit $$status
 
 ages: old-archive $(ARCHIVE)
-	@tests/ages.sh $(OLD) $(ARCHIVE)
+	@AGE=$(AGE) tests/ages.sh $(OLD) $(ARCHIVE)
 
 old-archive:
-	@test -f "$(OLD)" || { echo "make ages OLD=FILE: FILE is a libgindrazoma.a from before version 2.0.0; there is no '$(OLD)'" >&2; exit 1; }
+	@test -f "$(OLD)" || { echo "make ages OLD=FILE: FILE is a libgindrazoma.a from before version 2.0.0, or with AGE=2 from before 3.0.0; there is no '$(OLD)'" >&2; exit 1; }
 
 # ---- examples, and planlook on them
 

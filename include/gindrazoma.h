@@ -35,10 +35,10 @@
 #include <stdint.h>
 
 /* The version of this header, and of the archive that it belongs to. */
-#define GINDRAZOMA_VERSION_MAJOR 2
+#define GINDRAZOMA_VERSION_MAJOR 3
 #define GINDRAZOMA_VERSION_MINOR 0
 #define GINDRAZOMA_VERSION_PATCH 0
-#define GINDRAZOMA_VERSION "2.0.0"
+#define GINDRAZOMA_VERSION "3.0.0"
 
 #ifdef __cplusplus
 extern "C" {
@@ -114,11 +114,12 @@ int32_t gindrazoma_shortest_run(const uint8_t *image, size_t image_len, const ui
                                 uint8_t *out, size_t out_len);
 
 /*
- * The move of a plan at an index from 0, one for each rule of its first job in image order: writes the
- * move in two bytes, the low byte first, and then the remaining plan.
+ * The move of a plan at an index from 0: writes the move in two bytes, the low byte first, and then the
+ * remaining plan. The index counts each combination of move and remaining plan once, at the place of the
+ * first rule of the plan's first job that gives it, in image order. A rule that is written again adds none.
  *
  * Answer: the bytes written, 2 or more; or 0, with nothing written, for "no such move": exactly if the
- * plan is empty or the index is not below the number of its first job's rules. With 0 the output area
+ * plan is empty or the index is not below the number of different combinations. With 0 the output area
  * may be of any length.
  * Refusals: 2, 3, 4, 5, 6, 7, 8, 9, 10.
  */

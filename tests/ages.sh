@@ -1,18 +1,18 @@
 #!/bin/sh
-# ages.sh OLD NEW: an archive from before version 2.0.0 and one of now answer alike about COUNT images of before, from SEED, and the
-# old one refuses larger moves by 5.
+# ages.sh OLD NEW: an archive whose version begins with AGE, 1 or 2, and one of now answer alike about COUNT images from before version
+# 2.0.0, from SEED, once repeated moves of the old one are left out; and one of age 1 refuses larger moves by 5.
 set -u
 work=$(mktemp -d) || exit 1
 trap 'rm -rf "$work"' EXIT
 
-# answers NAME ARCHIVE WIDTH: the program over an archive whose moves have so many bytes, and what it prints
+# answers NAME ARCHIVE AGE: the program over an archive, and what it prints
 answers() {
     mkdir "$work/$1" && cp "$2" "$work/$1/libgindrazoma.a" &&
         GINDRAZOMA_LIB=$work/$1 cargo build -q --release -p outside --bin ages &&
         build/cargo/release/ages "$3" "${SEED:-1}" "${COUNT:-2000}" >"$work/$1.txt"
 }
 
-if ! answers old "$1" 1 || ! answers new "$2" 2; then
+if ! answers old "$1" "${AGE:-1}" || ! answers new "$2" 3; then
     echo "FAILED the answers of $1 and $2 could not be had"
     exit 1
 fi

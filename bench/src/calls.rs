@@ -24,6 +24,12 @@ pub const NORM: [Program; 2] = [
     ("plain", |image, (left, _), _| plain::plan_norm(image, left)),
 ];
 
+/// An index past the moves of the left plan, for which all rules are looked at: the library, the plain program.
+pub const MOVE: [Program; 2] = [
+    ("library", |image, (left, _), out| gindrazoma::raw::nth_move(image, left, u32::MAX, out)),
+    ("plain", |image, (left, _), out| plain::nth_move(image, left, u32::MAX, out)),
+];
+
 /// Every kind of pair is among so many.
 const PAIRS: usize = 12;
 

@@ -68,6 +68,7 @@ struct table table_s(void);          /* S1 = 0, X = 1, S2 = 2, B = 3, C = 4 */
 struct table table_xyz(void);        /* X = 0, Y = 1, Z = 2 */
 struct table table_doubling(int n);  /* job k: a, then job k-1 twice */
 struct table table_full(int rules);  /* 24 jobs and this number of rules, 24 or more: job k: a, then job k-1; other moves of all sizes */
+struct table table_repeated(void);   /* one job with 84 different rules, each three times */
 
 enum { EDGES = 6 };
 struct table table_edges(void);      /* a job each for the moves 0, 255, 256, 65,535, 'a' and 'a' + 256 */

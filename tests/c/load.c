@@ -8,7 +8,7 @@
 #include <stdlib.h>
 #include <string.h>
 
-enum { SPACE = 65536, OUT = 8192, TABLES = 6, CALLS = 256, THREADS = 8, STACK = 1 << 20 };
+enum { SPACE = 65536, OUT = 8192, TABLES = 7, CALLS = 256, THREADS = 8, STACK = 1 << 20 };
 
 static struct table tables[TABLES];
 static uint8_t images[TABLES][2560];
@@ -66,12 +66,13 @@ static void prepare(void)
     tables[3] = table_doubling(9);
     tables[4] = table_full(40);
     tables[5] = table_full(252);
+    tables[6] = table_repeated();
     for (int i = 0; i < TABLES; i++)
         image_lens[i] = image_of(&tables[i], images[i]);
     for (int i = 0; i < CALLS; i++) {
         struct call *c = &calls[i];
         c->which = i % 7;
-        c->table = (int)random_below(random_below(4) ? 5 : 6);
+        c->table = (int)random_below(random_below(4) ? 5 : TABLES);
         c->left_len = random_plan(c->left, tables[c->table].jobs);
         c->right_len = random_plan(c->right, tables[c->table].jobs);
         c->index = random_below(8);

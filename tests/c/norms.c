@@ -245,6 +245,33 @@ static void no_such_job(void)
     }
 }
 
+/* The move at an index, on output areas beyond, at and below its length. */
+static void move_is(const uint8_t *plan, size_t len, uint32_t index, const uint8_t *wanted, size_t need)
+{
+    for (size_t beyond = 0; beyond < 3; beyond++)
+        CHECK_EQ(move_at(plan, len, index, need + beyond, wanted, (int32_t)need), (int32_t)need);
+    CHECK_EQ(move_at(plan, len, index, need - 1, NULL, -10), -10);
+    CHECK_EQ(move_at(plan, len, index, 0, NULL, -10), -10);
+}
+
+/* There is no move at an index and beyond it, whatever the length of the output area. */
+static void no_move_from(const uint8_t *plan, size_t len, uint32_t index)
+{
+    const uint32_t beyond[] = { 0, 1, 255, 256, 65535, 65536 };
+    for (size_t i = 0; i < 6; i++)
+        CHECK_EQ(move_at(plan, len, index + beyond[i], i * 10, NULL, 0), 0);
+    CHECK_EQ(move_at(plan, len, 4294967295u, 9, NULL, 0), 0);
+}
+
+/* Whether the rule at a place stands at an earlier one, too. */
+static int stands_before(const struct table *t, size_t place)
+{
+    for (size_t r = 0; r < place; r++)
+        if (memcmp(t->bytes + 8 * r, t->bytes + 8 * place, 8) == 0)
+            return 1;
+    return 0;
+}
+
 /* Every index of every first job, with and without jobs behind it. */
 static void every_move(const struct table *t)
 {
@@ -255,23 +282,16 @@ static void every_move(const struct table *t)
             uint32_t index = 0;
             for (size_t r = 0; r < t->rules; r++) {
                 const uint8_t *p = t->bytes + 8 * r;
-                if (p[0] != j)
+                if (p[0] != j || stands_before(t, r))
                     continue;
-                size_t need = 2u + p[2] + behind;
                 wanted[0] = p[1];
                 wanted[1] = p[7];
                 memcpy(wanted + 2, p + 3, p[2]);
                 memcpy(wanted + 2 + p[2], plan + 1, behind);
-                for (size_t beyond = 0; beyond < 3; beyond++)
-                    CHECK_EQ(move_at(plan, 1 + behind, index, need + beyond, wanted, (int32_t)need), (int32_t)need);
-                CHECK_EQ(move_at(plan, 1 + behind, index, need - 1, NULL, -10), -10);
-                CHECK_EQ(move_at(plan, 1 + behind, index, 0, NULL, -10), -10);
+                move_is(plan, 1 + behind, index, wanted, 2u + p[2] + behind);
                 index++;
             }
-            const uint32_t beyond[] = { 0, 1, 255, 256, 65535, 65536 };
-            for (size_t i = 0; i < 6; i++)
-                CHECK_EQ(move_at(plan, 1 + behind, index + beyond[i], i * 10, NULL, 0), 0);
-            CHECK_EQ(move_at(plan, 1 + behind, 4294967295u, 9, NULL, 0), 0);
+            no_move_from(plan, 1 + behind, index);
         }
     }
 }
@@ -289,7 +309,7 @@ static void moves(void)
         t = table_full(rules[i]);
         every_move(&t);
     }
-    t = table_new(1); /* one job with many moves, and each of them twice */
+    t = table_new(1); /* one job with many moves, and each of them twice, to different rows */
     for (int i = 0; i < 252; i++)
         add_rule(&t, 0, i / 2 * 513, i % 4, 0, 0, 0, 0);
     every_move(&t);
@@ -337,6 +357,263 @@ static void moves_of_long_plans(void)
     CHECK_EQ(move_at(plan, 4097, 0, 4101, NULL, -9), -9);
     CHECK_EQ(move_at(plan, 4097, 9, 0, NULL, -9), -9);
     free(plan);
+}
+
+/* A move as it is written: two bytes, and the remaining plan. */
+struct shown {
+    size_t len;
+    uint8_t bytes[12];
+};
+
+/* The moves of a plan are these and no others. */
+static void moves_are(const uint8_t *plan, size_t len, const struct shown *moves, uint32_t count)
+{
+    for (uint32_t i = 0; i < count; i++)
+        move_is(plan, len, i, moves[i].bytes, moves[i].len);
+    no_move_from(plan, len, count);
+}
+
+/* Rules that are written twice or three times, next to one another and with others between them. */
+static void rules_written_again(void)
+{
+    static const uint8_t plan[] = { 1, 0 };
+    static const struct shown side_by_side[] = { { 4, { 'a', 0, 0, 0 } }, { 5, { 'b', 2, 0, 1, 0 } }, { 3, { 'c', 0, 0 } } };
+    struct table t = table_new(2);
+    rule1(&t, 1, 'a', 0);
+    rule1(&t, 1, 'a', 0);
+    rule0(&t, 0, 'd');
+    for (int i = 0; i < 3; i++)
+        rule2(&t, 1, 'b' + 512, 0, 1);
+    rule0(&t, 1, 'c');
+    rule0(&t, 1, 'c');
+    use(&t);
+    moves_are(plan, 2, side_by_side, 3);
+
+    static const struct shown mixed[] = { { 3, { 'c', 0, 0 } }, { 4, { 'a', 0, 1, 0 } }, { 3, { 'b', 0, 0 } }, { 3, { 'd', 0, 0 } } };
+    t = table_new(2);
+    rule0(&t, 1, 'c');
+    rule1(&t, 1, 'a', 1);
+    rule0(&t, 1, 'c');
+    rule0(&t, 1, 'b');
+    rule0(&t, 0, 'd');
+    rule1(&t, 1, 'a', 1);
+    rule0(&t, 1, 'c');
+    rule0(&t, 1, 'd');
+    rule0(&t, 1, 'b');
+    use(&t);
+    moves_are(plan, 2, mixed, 4);
+}
+
+/* 252 rules in four blocks. Job 1 has three different ones, one of them at the first and last place of each block; those of job 0
+   are all different. */
+static void repeated_in_other_blocks(void)
+{
+    static const struct shown of_job_1[] = { { 4, { 'a', 1, 0, 2 } }, { 3, { 'b', 0, 2 } }, { 6, { 'c', 0, 1, 1, 0, 2 } } };
+    static const uint8_t plan_1[] = { 1, 2 }, plan_0[] = { 0, 1 };
+    struct table t = table_new(3);
+    for (int i = 0; i < 252; i++) {
+        if (i % 63 == 0 || i % 63 == 62)
+            rule1(&t, 1, 'a' + 256, 0);
+        else if (i == 64 || i == 124 || i == 190)
+            rule0(&t, 1, 'b');
+        else if (i == 249)
+            add_rule(&t, 1, 'c', 3, 1, 1, 0, 0);
+        else if (i == 250)
+            rule0(&t, 2, 'a');
+        else
+            rule0(&t, 0, 257 * i);
+    }
+    use(&t);
+    moves_are(plan_1, 2, of_job_1, 3);
+    uint32_t index = 0;
+    for (size_t i = 0; i < 252; i++) {
+        const uint8_t wanted[] = { (uint8_t)i, (uint8_t)i, 1 };
+        if (t.bytes[8 * i] == 0)
+            move_is(plan_0, 2, index++, wanted, 3);
+    }
+    CHECK_EQ(index, 239);
+    no_move_from(plan_0, 2, 239);
+}
+
+/* One job with 252 rules that are all one rule; and with 251 such ones before another. */
+static void one_rule_252_times(void)
+{
+    static const struct shown one[] = { { 4, { 'a', 3, 0, 0 } } }, two[] = { { 7, { 'z', 0, 0, 0, 0, 0, 0 } }, { 3, { 'a', 3, 0 } } };
+    static const uint8_t plan[] = { 0, 0, 0 };
+    struct table t = table_new(1);
+    for (int i = 0; i < 252; i++)
+        rule0(&t, 0, 'a' + 768);
+    use(&t);
+    moves_are(plan, 3, one, 1);
+    for (uint32_t i = 1; i <= 252; i++)
+        CHECK_EQ(move_at(plan, 3, i, 4, NULL, 0), 0);
+    t = table_new(1);
+    for (int i = 0; i < 251; i++)
+        add_rule(&t, 0, 'z', 4, 0, 0, 0, 0);
+    rule0(&t, 0, 'a' + 768);
+    use(&t);
+    moves_are(plan, 2, two, 2);
+}
+
+/* One job with 252 rules: each so many times, next to one another or as far apart as can be. */
+static void many_rules_of_one_job(void)
+{
+    static const uint8_t plan[] = { 0, 0 };
+    const int times[] = { 1, 2, 3, 4, 126 };
+    for (int k = 0; k < 10; k += small_run() ? 3 : 1) {
+        const int different = 252 / times[k / 2];
+        struct table t = table_new(1);
+        for (int i = 0; i < 252; i++)
+            rule0(&t, 0, 65535 - 257 * (k % 2 ? i % different : i / times[k / 2]));
+        use(&t);
+        for (int i = 0; i < different; i++) {
+            const uint8_t wanted[] = { (uint8_t)(255 - i), (uint8_t)(255 - i), 0 };
+            move_is(plan, 2, (uint32_t)i, wanted, 3);
+        }
+        no_move_from(plan, 2, (uint32_t)different);
+    }
+    struct table t = table_repeated();
+    every_move(&t);
+}
+
+/* One move to rows that are beginnings of one another, or differ in one job; all of them written again behind. */
+static void equal_moves_with_different_rows(void)
+{
+    static const struct shown moves[] = {
+        { 3, { 'a', 0, 1 } },
+        { 4, { 'a', 0, 0, 1 } },
+        { 5, { 'a', 0, 0, 0, 1 } },
+        { 6, { 'a', 0, 0, 0, 0, 1 } },
+        { 7, { 'a', 0, 0, 0, 0, 0, 1 } },
+        { 4, { 'a', 0, 1, 1 } },
+        { 5, { 'a', 0, 1, 0, 1 } },
+        { 5, { 'a', 0, 0, 1, 1 } },
+        { 7, { 'a', 0, 0, 0, 0, 1, 1 } },
+        { 7, { 'a', 0, 0, 0, 1, 0, 1 } },
+        { 7, { 'a', 0, 0, 1, 0, 0, 1 } },
+        { 7, { 'a', 0, 1, 0, 0, 0, 1 } },
+    };
+    static const uint8_t plan[] = { 0, 1 };
+    struct table t = table_new(2);
+    for (int again = 0; again < 2; again++) {
+        for (int after = 0; after <= 4; after++)
+            add_rule(&t, 0, 'a', after, 0, 0, 0, 0);
+        rule1(&t, 0, 'a', 1);
+        rule2(&t, 0, 'a', 1, 0);
+        rule2(&t, 0, 'a', 0, 1);
+        for (int place = 3; place >= 0; place--)
+            add_rule(&t, 0, 'a', 4, place == 0, place == 1, place == 2, place == 3);
+        rule0(&t, 1, 'a');
+    }
+    use(&t);
+    moves_are(plan, 2, moves, 12);
+}
+
+/* One row after a move and after those that differ from it in one bit of either byte; all of them written again behind. */
+static void equal_rows_with_different_moves(void)
+{
+    static const uint8_t plan[] = { 0, 1 }, low = 'a', high = 5, as_it_is[] = { 'a', 5, 1, 1 };
+    struct table t = table_new(2);
+    rule0(&t, 1, 'b');
+    for (int again = 0; again < 2; again++) {
+        rule1(&t, 0, low + 256 * high, 1);
+        for (int bit = 0; bit < 16; bit++)
+            rule1(&t, 0, (low + 256 * high) ^ (1 << bit), 1);
+    }
+    use(&t);
+    move_is(plan, 2, 0, as_it_is, 4);
+    for (uint32_t bit = 0; bit < 8; bit++) {
+        const uint8_t in_low[] = { (uint8_t)(low ^ (1 << bit)), high, 1, 1 }, in_high[] = { low, (uint8_t)(high ^ (1 << bit)), 1, 1 };
+        move_is(plan, 2, 1 + bit, in_low, 4);
+        move_is(plan, 2, 9 + bit, in_high, 4);
+    }
+    no_move_from(plan, 2, 17);
+}
+
+/* Rows of one job, of no job too, before waiting jobs that are that one: the remaining plans differ in their lengths only. */
+static void rows_that_go_on_behind(void)
+{
+    static const uint8_t ones[] = { 1, 1, 1, 1, 1, 1, 1, 1, 1, 1, 1 };
+    struct table t = table_new(2);
+    for (int i = 0; i < 10; i++)
+        add_rule(&t, 0, 'a', i % 5, i % 5 > 0, i % 5 > 1, i % 5 > 2, i % 5 > 3);
+    rule0(&t, 1, 'b');
+    use(&t);
+    for (size_t behind = 0; behind < 8; behind++) {
+        uint8_t plan[8] = { 0 }, wanted[2 + sizeof ones] = { 'a', 0 };
+        memcpy(plan + 1, ones, behind);
+        memcpy(wanted + 2, ones, sizeof ones);
+        for (uint32_t row = 0; row < 5; row++)
+            move_is(plan, 1 + behind, row, wanted, 2 + row + behind);
+        no_move_from(plan, 1 + behind, 5);
+    }
+
+    static const uint8_t plan[] = { 0, 2 };
+    static const struct shown moves[] = { { 3, { 'c', 0, 2 } }, { 4, { 'c', 0, 2, 2 } } };
+    t = table_new(3);
+    for (int again = 0; again < 2; again++) {
+        rule0(&t, 0, 'c');
+        rule1(&t, 0, 'c', 2);
+    }
+    rule0(&t, 1, 'b');
+    rule0(&t, 2, 'd');
+    use(&t);
+    moves_are(plan, 2, moves, 2);
+}
+
+/* The move and row of one job's rule under other jobs, before and behind it: each of them is a move of its own job. */
+static void repeated_under_another_job(void)
+{
+    static const struct shown moves[] = { { 4, { 'a', 0, 3, 3 } }, { 3, { 'b', 0, 3 } } };
+    static const uint8_t threes[] = { 3, 3 };
+    struct table t = table_new(4);
+    for (int again = 0; again < 2; again++)
+        for (int j = 0; j < 3; j++)
+            rule1(&t, j, 'a', 3);
+    for (int j = 3; j >= 0; j--)
+        rule0(&t, j, 'b');
+    use(&t);
+    for (uint8_t j = 0; j < 3; j++) {
+        const uint8_t plan[] = { j, 3 };
+        moves_are(plan, 2, moves, 2);
+    }
+    moves_are(threes, 2, moves + 1, 1);
+}
+
+/* A move of the most bytes that stands behind a repeated rule. */
+static void long_plan_behind_a_repeated_rule(void)
+{
+    struct table t = table_new(1);
+    for (int i = 0; i < 70; i++)
+        rule0(&t, 0, 1);
+    add_rule(&t, 0, 65535, 4, 0, 0, 0, 0);
+    use(&t);
+    uint8_t *plan = repeated(0, 4097), wanted[4101] = { 255, 255 };
+    move_is(plan, 4096, 1, wanted, 4101);
+    no_move_from(plan, 4096, 2);
+    CHECK_EQ(move_at(plan, 4097, 1, 4101, NULL, -9), -9);
+    plan[4096] = 1;
+    CHECK_EQ(move_at(plan, 4097, 1, 4101, NULL, -8), -8);
+    free(plan);
+}
+
+/* Norms and shortest runs are those of the table without the repeated rules, and the reader gives all rules. */
+static void repeated_rules_change_nothing_else(void)
+{
+    struct table t = table_doubling(5);
+    for (int i = 5; i < 252; i++) {
+        memcpy(t.bytes + 8 * i, t.bytes + 8 * (i % 5), 8);
+        t.rules++;
+    }
+    use(&t);
+    const int32_t norms[] = { 1, 3, 7, 15, 31 };
+    for (int j = 0; j < 5; j++)
+        CHECK_EQ(norm_of_job(j), norms[j]);
+    run_of(&t, (const uint8_t *)"\3\0\2", 3, 23);
+    uint8_t out[GINDRAZOMA_READ_MAX];
+    CHECK_EQ(gindrazoma_read_image(image, image_len, out, sizeof out), 2017);
+    CHECK_EQ(out[0], 5);
+    CHECK(memcmp(out + 1, t.bytes, 2016) == 0);
 }
 
 static void shortest_runs(void)
@@ -447,6 +724,16 @@ static const struct check_case cases[] = {
     { "every index of every first job", moves },
     { "moves of two bytes", moves_of_two_bytes },
     { "moves of long plans", moves_of_long_plans },
+    { "rules written again", rules_written_again },
+    { "repeated rules in other blocks", repeated_in_other_blocks },
+    { "one rule 252 times", one_rule_252_times },
+    { "252 rules of one job", many_rules_of_one_job },
+    { "equal moves with different rows", equal_moves_with_different_rows },
+    { "equal rows with different moves", equal_rows_with_different_moves },
+    { "rows that go on in the jobs behind", rows_that_go_on_behind },
+    { "a rule repeated under another job", repeated_under_another_job },
+    { "a long plan behind a repeated rule", long_plan_behind_a_repeated_rule },
+    { "repeated rules change nothing else", repeated_rules_change_nothing_else },
     { "shortest runs, replayed", shortest_runs },
     { "plans with one shortest run", only_runs },
     { "runs of 4,096 moves", long_runs },

@@ -124,6 +124,14 @@ struct table table_full(int rules)
     return t;
 }
 
+struct table table_repeated(void)
+{
+    struct table t = table_new(1);
+    for (int i = 0; i < 252; i++)
+        add_rule(&t, 0, i % 84 / 4 * 513, i % 4, 0, 0, 0, 0);
+    return t;
+}
+
 struct table table_edges(void)
 {
     static const int edges[EDGES] = { 0, 255, 256, 65535, 'a', 'a' + 256 };

@@ -19,6 +19,7 @@ mod table;
 pub use steps::{Meter, Steps};
 
 use image::{fill_block, layout_of_list, load};
+use index::first_written;
 use norms::{job_norms, plan_norms, shortest, table_refusal};
 use region::Rows;
 use table::{Table, JOBS, RULE};
@@ -74,7 +75,8 @@ pub fn nth_move(image: &[u8], plan: &[u8], index: u32, out: &mut [u8]) -> i32 {
         let (table, norms) = checked(image)?;
         plan_norms(&norms, table.jobs, [plan])?;
         let Some((&first, behind)) = plan.split_first() else { return Ok(0) };
-        let mut rules = (0..table.count).filter(|&r| table.job(r) == first as usize);
+        let first_written = first_written(&table);
+        let mut rules = (0..table.count).filter(|&r| table.job(r) == first as usize && first_written[r]);
         let Some(r) = rules.nth(index as usize) else { return Ok(0) };
         let after = table.after(r);
         let out = output(out, 2 + after.len() + behind.len())?;

@@ -4,6 +4,7 @@ use bench::calls::COMPARE;
 use bench::inputs::{single_table, SINGLE_TABLES};
 use bench::pairs::{place_of, NEAR, PLAN_NORM};
 use outside::harness::{Outcome, Suite};
+use outside::repeated::repeated;
 use outside::rng::Rng;
 use outside::second::Second;
 use outside::shapes::{Made, Shape, SHAPES};
@@ -23,16 +24,22 @@ fn main() -> ExitCode {
     let mut suite = Suite::new();
     for shape in SHAPES {
         let count = if shape == Shape::Full { 30 } else { 200 };
-        suite.random(&format!("plain, shape {shape:?}"), count, move |rng| agrees(rng, shape));
+        suite.random(&format!("plain, shape {shape:?}"), count, move |rng| agrees(&Made::new(shape, rng), rng));
     }
+    suite.random("plain, repeated rules", 200, repeated_rules);
     for (index, (name, ..)) in SINGLE_TABLES.iter().enumerate() {
         suite.fixed(&format!("1,000 pairs, {name}"), move || one_table(index));
     }
     suite.finish()
 }
 
-fn agrees(rng: &mut Rng, shape: Shape) -> Outcome {
-    let made = Made::new(shape, rng);
+fn repeated_rules(rng: &mut Rng) -> Outcome {
+    let made = repeated(rng);
+    ensure!(made.table.different_rules() < made.table.rules.len(), "no rule is repeated");
+    agrees(&made, rng)
+}
+
+fn agrees(made: &Made, rng: &mut Rng) -> Outcome {
     let (image, second) = (made.table.image(), Second::new(&made.table));
     second.certify()?;
     let mut space = rng.bytes(plain::WORKSPACE);
@@ -48,7 +55,7 @@ fn agrees(rng: &mut Rng, shape: Shape) -> Outcome {
             ensure!(out[n as usize..].iter().all(|&b| b == 0), "{name}: the output behind the form of {p:?}");
         }
         ensure_eq!(plain::plan_norm(&image, &p), made.norm(&p) as i32, "the norm of {p:?}");
-        runs_and_moves(&made, &image, &p)?;
+        runs_and_moves(made, &image, &p)?;
     }
     Ok(())
 }
@@ -61,7 +68,11 @@ fn runs_and_moves(made: &Made, image: &[u8], plan: &[u8]) -> Outcome {
     if let Some((_, short)) = run.split_last_mut() {
         ensure_eq!(plain::shortest_run(image, plan, short), -10, "the run of {plan:?} into an area one too short");
     }
-    for (index, (action, rest)) in (0..).zip(made.table.moves(plan)) {
+    let moves = made.table.moves(plan);
+    for index in [moves.len() as u32, u32::MAX] {
+        ensure_eq!(plain::nth_move(image, plan, index, &mut []), 0, "move {index} of {plan:?}");
+    }
+    for (index, (action, rest)) in (0..).zip(moves) {
         let wanted = [&action.to_le_bytes(), &rest[..]].concat();
         let mut out = vec![0; wanted.len()];
         ensure_eq!(

@@ -14,7 +14,7 @@ use Rattle.image.specs.Image.{byte-sum, checksum, rules-in-block, block-
 use Rattle.image.specs.Filling.{filled-body, filled}
 use Rattle.bpa.proofs.Basics.Cases.{and-both}
 use Rattle.image.proofs.PlaceRows.{places-local}
-use Rattle.image.proofs.Zeros.{zeros-zero}
+use Rattle.rules.proofs.Zeros.{zeros-zero}
 
 checksum-small : (x : List ℕ) → checksum x < 65521
 unfolding checksum

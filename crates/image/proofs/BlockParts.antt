@@ -13,7 +13,7 @@ use Rattle.image.specs.Image.{byte-sum, checksum, rules-in-block, block-
 use Rattle.image.specs.Filling.{filled-body, filled}
 use Rattle.bpa.proofs.Basics.Cases.{and-right}
 use Rattle.image.proofs.Blocks.{Head}
-use Rattle.image.proofs.Zeros.{zeros-are}
+use Rattle.rules.proofs.Zeros.{zeros-are}
 
 parts : (a b c d e : ℕ) (x : List ℕ) →
     take (a + b + c + d + e) x ≡ take a x ++ take b (drop a x) ++ take c (drop (a + b) x) ++ take d (drop (a + b + c) x) ++ take e (drop (a + b + c + d) x)

@@ -6,7 +6,6 @@ pub mod PlaceRows
 pub mod ListRefusal
 pub mod HeldTable
 pub mod WrittenImages
-pub mod Zeros
 pub mod BlockParts
 pub mod ImageList
 pub mod ImageBack

@@ -1,65 +1,164 @@
--- The n-th rule of a job by a pass over the rules. Assumes nothing.
+-- The n-th move shown by a pass over the rules of a job: those that repeat an earlier one are passed over. Assumes nothing.
 use mathlib.Core.Path.{_≡_, sym, ap, _∙_, subst}
-use mathlib.Core.Bool.{Bool, true, false, cond}
+use mathlib.Core.Bool.{Bool, true, false, cond, false≢true}
 use mathlib.Core.List.{List, [], _∷_, _++_}
-use Prim.Native.Nat.{ℕ, suc, _+_, _-_, _≤_, _<_}
-use native.Mathlib.Numerals.{add-one}
+use mathlib.Core.Logic.{⊎-elim}
+use Prim.Native.Nat.{ℕ, zero, suc, _-_, _≤_, _<_}
 use native.Mathlib.Omega.{arith}
-use lib.Dec.{eqb}
-use borrow.Author.Tests.{eq-eqb, ne-eqb, lt-ltb, le-ltb}
-use Rattle.bpa.specs.Plans.{Rule, job-moves}
+use lib.Dec.{eqb, ltb}
+use borrow.Author.Tests.{eqb-true, eqb-false, eq-eqb, ne-eqb, lt-ltb, le-ltb, ltb-true, ltb-false}
+use Rattle.bpa.specs.Plans.{Rule, Move, job-moves}
+use Rattle.bpa.proofs.Basics.Cases.{by-test, or-left, or-right, or-cases}
 use Rattle.rules.specs.Places.{rules-in, rule-at, rule-count, table-of}
 use Rattle.rules.proofs.ListLaws.{rules-from, rules-from-start, rules-from-cons, rules-from-end}
+use Rattle.moves.specs.Shown.{same-move, without, once, move-by}
 use Rattle.moves.specs.Moves.{move-bytes, bytes-by, IsNth}
+use Rattle.moves.proofs.ShownMoves.{one-move, same-self}
+use Rattle.moves.proofs.PassedMoves.{apart-from, was-passed, front-passed, front-new, one-more, passed-last, nothing-apart}
 
-module _ (rs : List ℕ) (j n : ℕ) where
-  -- the move is still to be found among the rules from i on, so many of the job's rules further
-  pub Ahead : (left i : ℕ) → Type 0
-  Ahead left i = (w : List ℕ) → move-bytes (job-moves j w (rules-from rs i)) left ≡ move-bytes (job-moves j w (rules-in (rule-count rs) rs)) n
+module _ (rs : List ℕ) (j : ℕ) where
+  -- the move by the rule at a place
+  abbrev pub made : (waiting : List ℕ) → (i : ℕ) → Move
+  made w i = move-by (rule-at rs i) w
 
-  pub ahead-start : Ahead n 0
-  unfolding Ahead table-of
-  ahead-start w = ap (λ (l : List Rule). move-bytes (job-moves j w l) n) (rules-from-start 0 rs)
+  -- the moves by the job's rules before i, and those from i on, each once
+  unfoldable pub passed : (waiting : List ℕ) → (i : ℕ) → List Move
+  passed w zero = []
+  passed w (suc i) = cond (eqb (rule-at rs i .job) j) (passed w i ++ (made w i ∷ [])) (passed w i)
 
-  module _ (left i : ℕ) (h : i < rule-count rs) (a : Ahead left i) where
-    -- the first rule decides by its job
-    by-job : (b : Bool) → eqb (rule-at rs i .job) j ≡ b → (w : List ℕ) →
-        move-bytes (cond b (record { move = rule-at rs i .move; rest = rule-at rs i .after ++ w } ∷ job-moves j w (rules-from rs (suc i)))
-        (job-moves j w (rules-from rs (suc i)))) left
-        ≡ move-bytes (job-moves j w (rules-in (rule-count rs) rs)) n
-    unfolding Ahead job-moves
-    by-job b e w =
-        ap (λ (x : Bool). move-bytes (cond x (record { move = rule-at rs i .move; rest = rule-at rs i .after ++ w } ∷ job-moves j w (rules-from rs (suc i)))
-        (job-moves j w (rules-from rs (suc i)))) left) (sym e)
-        ∙ ap (λ (l : List Rule). move-bytes (job-moves j w l) left) (sym (rules-from-cons rs i h)) ∙ a w
+  abbrev ahead-of : (waiting : List ℕ) → (i : ℕ) → List Move
+  ahead-of w i = once (job-moves j w (rules-from rs i))
 
-    pub ahead-other : (rule-at rs i .job ≡ j → ⊥) → Ahead left (i + 1)
-    unfolding Ahead
-    ahead-other d w =
-        ap (λ (k : ℕ). move-bytes (job-moves j w (rules-from rs k)) left) (add-one i) ∙ by-job false (ne-eqb (rule-at rs i .job) j d) w
+  module _ (w : List ℕ) (i : ℕ) where
+    passed-own : rule-at rs i .job ≡ j → passed w (suc i) ≡ passed w i ++ (made w i ∷ [])
+    unfolding passed
+    passed-own e = ap (λ (b : Bool). cond b (passed w i ++ (made w i ∷ [])) (passed w i)) (eq-eqb (rule-at rs i .job) j e)
 
-    pub ahead-later : rule-at rs i .job ≡ j → 0 < left → Ahead (left - 1) (i + 1)
-    unfolding Ahead move-bytes
-    ahead-later e l w =
-        let s : left ≡ suc (left - 1) = omega arith in
-        ap (λ (k : ℕ). move-bytes (job-moves j w (rules-from rs k)) (left - 1)) (add-one i)
-        ∙ subst (λ (x : ℕ). move-bytes (record { move = rule-at rs i .move; rest = rule-at rs i .after ++ w } ∷ job-moves j w (rules-from rs (suc i))) x
-        ≡ move-bytes (job-moves j w (rules-in (rule-count rs) rs)) n) s (by-job true (eq-eqb (rule-at rs i .job) j e) w)
+    passed-other : (rule-at rs i .job ≡ j → ⊥) → passed w (suc i) ≡ passed w i
+    unfolding passed
+    passed-other d = ap (λ (b : Bool). cond b (passed w i ++ (made w i ∷ [])) (passed w i)) (ne-eqb (rule-at rs i .job) j d)
 
-    pub found-here : rule-at rs i .job ≡ j → left ≡ 0 → IsNth rs j n i
-    unfolding Ahead move-bytes bytes-by
-    found-here e z = record {
+    module _ (h : i < rule-count rs) where
+      ahead-own : rule-at rs i .job ≡ j → ahead-of w i ≡ made w i ∷ without (made w i) (ahead-of w (suc i))
+      unfolding job-moves once
+      ahead-own e =
+          ap (λ (l : List Rule). once (job-moves j w l)) (rules-from-cons rs i h)
+          ∙ ap (λ (b : Bool). once (cond b (made w i ∷ job-moves j w (rules-from rs (suc i))) (job-moves j w (rules-from rs (suc i)))))
+          (eq-eqb (rule-at rs i .job) j e)
+
+      ahead-other : (rule-at rs i .job ≡ j → ⊥) → ahead-of w i ≡ ahead-of w (suc i)
+      unfolding job-moves
+      ahead-other d =
+          ap (λ (l : List Rule). once (job-moves j w l)) (rules-from-cons rs i h)
+          ∙ ap (λ (b : Bool). once (cond b (made w i ∷ job-moves j w (rules-from rs (suc i))) (job-moves j w (rules-from rs (suc i)))))
+          (ne-eqb (rule-at rs i .job) j d)
+
+  -- a move was passed exactly if an earlier rule of the job makes it
+  pub was-made : (w : List ℕ) (m : Move) (i e : ℕ) → e < i → rule-at rs e .job ≡ j → made w e ≡ m →
+      was-passed (passed w i) m ≡ true
+  was-made w m zero e h is same = absurd (omega arith)
+  was-made w m (suc i) e h is same =
+      by-test (ltb e i)
+      (λ t.
+      let met = was-made w m i e (ltb-true e i t) is same in
+      by-test (eqb (rule-at rs i .job) j)
+      (λ o. ap (λ (l : List Move). was-passed l m) (passed-own w i (eqb-true (rule-at rs i .job) j o))
+      ∙ passed-last (passed w i) (made w i) m ∙ or-left (was-passed (passed w i) m) (same-move (made w i) m) met)
+      (λ o. ap (λ (l : List Move). was-passed l m) (passed-other w i (eqb-false (rule-at rs i .job) j o)) ∙ met))
+      (λ f.
+      let here : e ≡ i = let l = ltb-false e i f in omega arith in
+      ap (λ (l : List Move). was-passed l m) (passed-own w i (ap (λ (x : ℕ). rule-at rs x .job) (sym here) ∙ is))
+      ∙ passed-last (passed w i) (made w i) m
+      ∙ or-right (was-passed (passed w i) m) (same-move (made w i) m)
+      (same-self (made w i) m (ap (made w) (sym here) ∙ same)))
+
+  pub made-by : (w : List ℕ) (m : Move) (i : ℕ) → was-passed (passed w i) m ≡ true →
+      (e : ℕ) × (e < i) × (rule-at rs e .job ≡ j) × (made w e ≡ m)
+  unfolding passed was-passed
+  made-by w m zero t = absurd (false≢true t)
+  made-by w m (suc i) t =
+      by-test (eqb (rule-at rs i .job) j)
+      (λ o.
+      let is = eqb-true (rule-at rs i .job) j o in
+      ⊎-elim (λ (s : was-passed (passed w i) m ≡ true). earlier (made-by w m i s))
+      (λ (s : same-move (made w i) m ≡ true). (i, omega arith, is, one-move (made w i) m s))
+      (or-cases (was-passed (passed w i) m) (same-move (made w i) m)
+      (sym (passed-last (passed w i) (made w i) m) ∙ ap (λ (l : List Move). was-passed l m) (sym (passed-own w i is)) ∙ t)))
+      (λ o. earlier (made-by w m i (ap (λ (l : List Move). was-passed l m) (sym (passed-other w i (eqb-false (rule-at rs i .job) j o))) ∙ t)))
+    where
+      earlier : ((e : ℕ) × (e < i) × (rule-at rs e .job ≡ j) × (made w e ≡ m)) →
+          (e : ℕ) × (e < suc i) × (rule-at rs e .job ≡ j) × (made w e ≡ m)
+      earlier (e, l, is, same) = (e, omega (arith, l), is, same)
+
+  module _ (n : ℕ) where
+    -- the move is still to be found among those ahead, so many of them further
+    pub Ahead : (left i : ℕ) → Type 0
+    Ahead left i = (w : List ℕ) →
+        move-bytes (apart-from (passed w i) (ahead-of w i)) left ≡ move-bytes (once (job-moves j w (rules-in (rule-count rs) rs))) n
+
+    pub ahead-start : Ahead n 0
+    unfolding Ahead passed apart-from table-of
+    ahead-start w = ap (λ (l : List Rule). move-bytes (once (job-moves j w l)) n) (rules-from-start 0 rs)
+
+    module _ (left i : ℕ) (h : i < rule-count rs) (a : Ahead left i) where
+      pub ahead-past : (rule-at rs i .job ≡ j → ⊥) → Ahead left (suc i)
+      unfolding Ahead
+      ahead-past d w =
+          ap (λ (l : List Move). move-bytes (apart-from l (ahead-of w (suc i))) left) (passed-other w i d)
+          ∙ ap (λ (l : List Move). move-bytes (apart-from (passed w i) l) left) (sym (ahead-other w i h d)) ∙ a w
+
+      module _ (is : rule-at rs i .job ≡ j) where
+        -- what is left of those ahead once the rule is passed
+        rest-ahead : (w : List ℕ) → apart-from (passed w i) (without (made w i) (ahead-of w (suc i))) ≡ apart-from (passed w (suc i)) (ahead-of w (suc i))
+        rest-ahead w =
+            sym (one-more (passed w i) (made w i) (ahead-of w (suc i)))
+            ∙ ap (λ (l : List Move). apart-from l (ahead-of w (suc i))) (sym (passed-own w i is))
+
+        pub ahead-again : ((w : List ℕ) → was-passed (passed w i) (made w i) ≡ true) → Ahead left (suc i)
+        unfolding Ahead
+        ahead-again met w =
+            ap (λ (l : List Move). move-bytes l left)
+            (sym (rest-ahead w) ∙ sym (front-passed (made w i) (without (made w i) (ahead-of w (suc i))) (passed w i) (met w))
+            ∙ ap (apart-from (passed w i)) (sym (ahead-own w i h is)))
+            ∙ a w
+
+        module _ (new : (w : List ℕ) → was-passed (passed w i) (made w i) ≡ false) where
+          first-ahead : (w : List ℕ) →
+              move-bytes (made w i ∷ apart-from (passed w (suc i)) (ahead-of w (suc i))) left
+              ≡ move-bytes (once (job-moves j w (rules-in (rule-count rs) rs))) n
+          unfolding Ahead
+          first-ahead w =
+              ap (λ (l : List Move). move-bytes l left)
+              (ap (λ (l : List Move). made w i ∷ l) (sym (rest-ahead w))
+              ∙ sym (front-new (made w i) (without (made w i) (ahead-of w (suc i))) (passed w i) (new w))
+              ∙ ap (apart-from (passed w i)) (sym (ahead-own w i h is)))
+              ∙ a w
+
+          pub ahead-later : 0 < left → Ahead (left - 1) (suc i)
+          unfolding Ahead move-bytes
+          ahead-later l w =
+              let s : left ≡ suc (left - 1) = omega arith in
+              subst (λ (x : ℕ). move-bytes (made w i ∷ apart-from (passed w (suc i)) (ahead-of w (suc i))) x
+              ≡ move-bytes (once (job-moves j w (rules-in (rule-count rs) rs))) n) s (first-ahead w)
+
+          pub found-here : left ≡ 0 → IsNth rs j n i
+          unfolding move-bytes bytes-by
+          found-here z = record {
+            place = omega arith;
+            move = λ w.
+                sym (subst (λ (x : ℕ). move-bytes (made w i ∷ apart-from (passed w (suc i)) (ahead-of w (suc i))) x
+                ≡ move-bytes (once (job-moves j w (rules-in (rule-count rs) rs))) n) z (first-ahead w))
+                ∙ ap (λ (b : Bool). cond b (bytes-by rs i w) []) (sym (lt-ltb i (rule-count rs) h));
+          }
+
+    -- past the last rule nothing is ahead
+    pub found-none : (left i k : ℕ) → k ≡ rule-count rs → rule-count rs ≤ i → Ahead left i → IsNth rs j n k
+    unfolding Ahead job-moves once move-bytes
+    found-none left i k e h a = record {
       place = omega arith;
       move = λ w.
-          sym (subst (λ (x : ℕ). move-bytes (record { move = rule-at rs i .move; rest = rule-at rs i .after ++ w } ∷ job-moves j w (rules-from rs (suc i))) x
-          ≡ move-bytes (job-moves j w (rules-in (rule-count rs) rs)) n) z (by-job true (eq-eqb (rule-at rs i .job) j e) w))
-          ∙ ap (λ (b : Bool). cond b (bytes-by rs i w) []) (sym (lt-ltb i (rule-count rs) h));
+          sym (a w)
+          ∙ ap (λ (l : List Rule). move-bytes (apart-from (passed w i) (once (job-moves j w l))) left) (rules-from-end rs i h)
+          ∙ ap (λ (l : List Move). move-bytes l left) (nothing-apart (passed w i))
+          ∙ ap (λ (b : Bool). cond b (bytes-by rs k w) []) (sym (le-ltb k (rule-count rs) (omega arith)));
     }
-
-  pub found-none : (left i k : ℕ) → k ≡ rule-count rs → rule-count rs ≤ i → Ahead left i → IsNth rs j n k
-  unfolding Ahead job-moves move-bytes
-  found-none left i k e h a = record {
-    place = omega arith;
-    move = λ w. sym (a w) ∙ ap (λ (l : List Rule). move-bytes (job-moves j w l) left) (rules-from-end rs i h)
-        ∙ ap (λ (b : Bool). cond b (bytes-by rs k w) []) (sym (le-ltb k (rule-count rs) (omega arith)));
-  }

@@ -1,2 +1,3 @@
 -- The n-th move of a plan.
+pub mod Shown
 pub mod Moves

@@ -3,12 +3,13 @@ use mathlib.Core.Path.{_≡_}
 use mathlib.Core.Bool.{cond}
 use mathlib.Core.List.{List, [], _∷_, _++_}
 use Prim.Native.Nat.{ℕ, zero, suc, _≤_}
-use lib.Dec.{ltb, eqb}
+use lib.Dec.{ltb}
 use lib.ListN.{length}
-use Rattle.bpa.specs.Plans.{Rule, Table, Move, job-moves}
+use Rattle.bpa.specs.Plans.{Move, job-moves}
 use Rattle.area.specs.Numbers.{low-first}
 use Rattle.rules.specs.Places.{rules-in, rule-count, rule-at}
 use Rattle.rules.specs.Lists.{HasPlace}
+use Rattle.moves.specs.Shown.{once}
 
 -- THE n-TH MOVE of a list: its number in two bytes, then the remaining plan; nothing if there is no such move
 unfoldable pub move-bytes : List Move → (n : ℕ) → List ℕ
@@ -16,23 +17,14 @@ move-bytes [] n = []
 move-bytes (m ∷ ms) zero = low-first (m .move) ++ m .rest
 move-bytes (m ∷ ms) (suc n) = move-bytes ms n
 
--- how many rules the first job of a plan has
-unfoldable pub rules-of : (job : ℕ) → List Rule → ℕ
-rules-of j [] = 0
-rules-of j (r ∷ rs) = cond (eqb (r .job) j) (suc (rules-of j rs)) (rules-of j rs)
-
-unfoldable pub first-rules : Table → (plan : List ℕ) → ℕ
-first-rules t [] = 0
-first-rules t (j ∷ js) = rules-of j (t .rules)
-
 -- the bytes of a move by the rule at a place, with jobs that wait
 unfoldable pub bytes-by : (rules : List ℕ) → (i : ℕ) → (waiting : List ℕ) → List ℕ
 bytes-by rs i w = low-first (rule-at rs i .move) ++ (rule-at rs i .after ++ w)
 
--- the place of the n-th rule of a job, or the end of the list
+-- the place of the n-th of a job's rules that are shown, whatever waits behind the job, or the end of the list
 pub record IsNth (rs : List ℕ) (j n i : ℕ) : Type 0 where
   pub place : i ≤ rule-count rs
-  pub move : (w : List ℕ) → move-bytes (job-moves j w (rules-in (rule-count rs) rs)) n ≡ cond (ltb i (rule-count rs)) (bytes-by rs i w) []
+  pub move : (w : List ℕ) → move-bytes (once (job-moves j w (rules-in (rule-count rs) rs))) n ≡ cond (ltb i (rule-count rs)) (bytes-by rs i w) []
 
 -- room for the bytes of a move
 pub record RoomFor (rs : List ℕ) (i : ℕ) (w out : List ℕ) : Type 0 where

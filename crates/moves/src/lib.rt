@@ -1,19 +1,23 @@
 // The n-th move of a plan.
 ghost use Prim.Native.Nat.{_≤_};
 ghost use lib.ListN.{length};
-ghost use Rattle.bpa.specs.Plans.{moves};
 ghost use Rattle.rules.specs.Places.{table-of};
 ghost use Rattle.rules.specs.Lists.{GoodList};
 ghost use Rattle.area.specs.Areas.{IsPut};
 ghost use Rattle.answer.specs.Answer.{Writes};
 ghost use Rattle.moves.specs.Moves.{move-bytes, bytes-by, IsNth, RoomFor};
+ghost use Rattle.moves.specs.Shown.{shown};
 
-// The place of a job's rule by its index among the job's rules; the number of all rules if there is none.
-fn find_rule(rules: &[u8], job: usize, index: u32) -> usize
+// The place of a job's rule by its index among those that no earlier one is equal to; the number of all rules if there is none. Those passed
+// are kept in buckets as `repeated` keeps them.
+fn find_rule(jobs: usize, rules: &[u8], job: usize, index: u32) -> usize
+    requires { ⌜ GoodList jobs (now rules) ⌝ }
     ensures { λ r. ⌜ IsNth (now (rules .entry)) job index r ⌝ }
 {
     let total = rules::rule_total(rules);
     let mut left = index;
+    let mut links = [255u8; 252];
+    let mut last = [255u8; 64];
     let mut rest = total;
     while 0 < rest {
         let at = total - rest;
@@ -21,10 +25,16 @@ fn find_rule(rules: &[u8], job: usize, index: u32) -> usize
         if rules::rule_job(rules, at) != job {
             continue;
         }
+        let b = repeated::bucket(repeated::place(rules, at));
+        if repeated::stands(rules, &links, area::wide(last[b]), at) {
+            continue;
+        }
         if left == 0 {
             return at;
         }
         left -= 1;
+        links[at] = last[b];
+        last[b] = at as u8;
     }
     total
 }
@@ -39,18 +49,18 @@ fn write_move(rules: &[u8], i: usize, waiting: &[u8], out: &mut [u8]) -> usize
     area::put(out, behind, waiting)
 }
 
-// The n-th move of a plan, one for each rule of its first job in image order. It gives the number of bytes written, 0 for no
+// The n-th move that a plan shows. It gives the number of bytes written, 0 for no
 // such move, or refusal 10.
 pub fn nth_move(jobs: usize, rules: &[u8], plan: &[u8], index: u32, out: &mut [u8]) -> i32
     requires { ⌜ GoodList jobs (now rules) ⌝ }
     requires { ⌜ length (now plan) ≤ 4096 ⌝ }
-    ensures { λ r. ⌜ Writes 0 (move-bytes (moves (table-of jobs (now (rules .entry))) (now (plan .entry))) index) (now (out .entry)) r (now (out .exit)) ⌝ }
+    ensures { λ r. ⌜ Writes 0 (move-bytes (shown (table-of jobs (now (rules .entry))) (now (plan .entry))) index) (now (out .entry)) r (now (out .exit)) ⌝ }
 {
     if plan.len() == 0 {
         return 0;
     }
     let job = plan[0] as usize;
-    let i = find_rule(rules, job, index);
+    let i = find_rule(jobs, rules, job, index);
     if i >= rules::rule_total(rules) {
         return 0;
     }

@@ -11,7 +11,8 @@ use Rattle.rules.specs.Places.{move-in, rule-in, each-place, rules-in, rule-cou
 use Rattle.image.specs.Image.{image-jobs, image-places}
 use Rattle.image.proofs.ListRefusal.{good-list}
 use Rattle.image.proofs.ByteRows.{byte-drop, places-bytes, first-low}
-use Rattle.image.proofs.TableBytes.{after-few, bytes-of-list}
+use Rattle.rules.proofs.PlaceBack.{after-few}
+use Rattle.image.proofs.TableBytes.{bytes-of-list}
 use Rattle.old_format.specs.OldFormat.{old-rule-in, old-rules-in, old-table-of, old-place-of, old-places-of, old-table-bytes, old-place-good, old-layout-refusal, old-table-in, old-list-refusal}
 use Rattle.old_format.proofs.OldPlaces.{old-is-good, high-zero}
 use Rattle.old_format.proofs.OldLists.{list-same, old-places-pass}

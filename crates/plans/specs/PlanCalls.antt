@@ -3,11 +3,11 @@ use mathlib.Core.Path.{_≡_}
 use mathlib.Core.List.{List}
 use Prim.Native.Nat.{ℕ}
 use lib.IntN.{ℤ}
-use Rattle.bpa.specs.Plans.{moves}
 use Rattle.bpa.specs.Norms.{norm}
 use Rattle.area.specs.Numbers.{all-low-first}
 use Rattle.answer.specs.Answer.{Gives, Writes}
 use Rattle.image.specs.Image.{table-in}
+use Rattle.moves.specs.Shown.{shown}
 use Rattle.moves.specs.Moves.{move-bytes}
 use Rattle.runs.specs.Runs.{Shortest}
 use Rattle.table.specs.CallRefusals.{one-plan}
@@ -16,9 +16,9 @@ use Rattle.table.specs.CallRefusals.{one-plan}
 abbrev pub Normed : (image plan : List ℕ) → ℤ → Type 0
 Normed bs p r = Gives (one-plan bs p) (norm (table-in bs) p) r
 
--- THE n-TH MOVE: its number in two bytes and the remaining plan; no such move writes nothing and answers 0
+-- THE n-TH MOVE SHOWN: its number in two bytes and the remaining plan; no such move writes nothing and answers 0
 abbrev pub Moved : (image plan : List ℕ) → (index : ℕ) → (out : List ℕ) → ℤ → (out′ : List ℕ) → Type 0
-Moved bs p n o r o′ = Writes (one-plan bs p) (move-bytes (moves (table-in bs) p) n) o r o′
+Moved bs p n o r o′ = Writes (one-plan bs p) (move-bytes (shown (table-in bs) p) n) o r o′
 
 -- A SHORTEST RUN: as many moves as the norm, two bytes each, leading to the empty plan; which one is free
 pub record Ran (bs p o : List ℕ) (r : ℤ) (o′ : List ℕ) : Type 0 where

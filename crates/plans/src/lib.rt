@@ -17,7 +17,7 @@ pub fn plan_norm(image: &[u8], plan: &[u8]) -> i32
     answer::result(norm::capped_sum(&norms, plan) as usize)
 }
 
-// The n-th move, n from 0: the move, then the remaining plan, one for each rule of the first job in image order.
+// The n-th move shown, n from 0: the move, then the remaining plan.
 pub fn nth_move(image: &[u8], plan: &[u8], index: u32, out: &mut [u8]) -> i32
     ensures { λ r. ⌜ Moved (now (image .entry)) (now (plan .entry)) index (now (out .entry)) r (now (out .exit)) ⌝ }
 {

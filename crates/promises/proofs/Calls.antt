@@ -30,7 +30,9 @@ use Rattle.image.specs.Writing.{write-refusal, written}
 use Rattle.image.proofs.TableBytes.{bytes-of-list, bytes-of-image}
 use Rattle.image.proofs.ImageBack as images
 use Rattle.image.proofs.TableBack as tables
+use Rattle.moves.specs.Shown.{shown, At}
 use Rattle.moves.specs.Moves.{move-bytes}
+use Rattle.moves.proofs.ShownMoves.{once-apart}
 use Rattle.moves.proofs.NoSuchMove.{no-such-move}
 use Rattle.table.specs.CallRefusals.{one-plan, two-plans}
 use Rattle.table.proofs.ImageTables.{image-passes, image-table}
@@ -126,7 +128,7 @@ pub move-written : promised.Move-written
 unfolding promised.Move-written all-bytes
 move-written bs p o o′ i n w =
     let t = table-in bs in
-    let bytes = move-bytes (moves t p) i in
+    let bytes = move-bytes (shown t p) i in
     let s = written-result (one-plan bs p) bytes o o′ n w in
     let none = no-such-move t p i in (
       s .bytes,
@@ -135,7 +137,7 @@ move-written bs p o o′ i n w =
         (λ h. s .count ∙ no-length bytes .1 (none .1 h)),
       ),
       λ b l.
-          let (a, q, e, step) = listed-step t p i (subst (λ (m : ℕ). 0 < m) (s .count) l) in
+          let (a, q, e, k, step) = listed-step t p i (subst (λ (m : ℕ). 0 < m) (s .count) l) in
           let small = step-small bs b p q a step in
           subst (λ (x : ℕ). Step t p x (drop 2 (take n o′))) (sym (move-first a q (take n o′) (s .bytes ∙ e) small))
           (subst (Step t p a) (sym (rest-behind a q (take n o′) (s .bytes ∙ e) small)) step),
@@ -155,6 +157,22 @@ steps-written bs p q a b f step =
           let stands : take n o′ ≡ low-first a ++ q = ap (λ (m : ℕ). take m o′) whole ∙ bytes in
           (answer ∙ ap pos (sym whole), move-first a q (take n o′) stands small, rest-behind a q (take n o′) stands small),
     )
+
+pub moves-written-once : promised.Moves-written-once
+unfolding promised.Moves-written-once all-bytes shown
+moves-written-once bs p o o′ u u′ i k n b w v l same =
+    let t = table-in bs in
+    let s = written-result (one-plan bs p) (move-bytes (shown t p) i) o o′ n w in
+    let z = written-result (one-plan bs p) (move-bytes (shown t p) k) u u′ n v in
+    let (a, q, e, x, step) = listed-step t p i (subst (λ (m : ℕ). 0 < m) (s .count) l) in
+    let (a′, q′, e′, y, step′) = listed-step t p k (subst (λ (m : ℕ). 0 < m) (z .count) l) in
+    let small = step-small bs b p q a step in
+    let small′ = step-small bs b p q′ a′ step′ in
+    let one : take n o′ ≡ low-first a ++ q = s .bytes ∙ e in
+    let other : take n o′ ≡ low-first a′ ++ q′ = same ∙ z .bytes ∙ e′ in
+    let move : a′ ≡ a = sym (move-first a′ q′ (take n o′) other small′) ∙ move-first a q (take n o′) one small in
+    let rest : q′ ≡ q = sym (rest-behind a′ q′ (take n o′) other small′) ∙ rest-behind a q (take n o′) one small in
+    once-apart (moves t p) (record { move = a; rest = q }) i k x (subst (At (shown t p) k) (λ d. record { move = move d; rest = rest d }) y)
 
 pub compare-tells : promised.Compare-tells
 unfolding promised.Compare-tells

@@ -5,7 +5,7 @@ use mathlib.Core.List.{_++_, List, [], _∷_, List·Memᴰ·head}
 use Prim.Native.Nat.{ℕ}
 use native.Mathlib.Omega.{arith}
 use lib.ListN.{drop}
-use Rattle.bpa.specs.Plans.{Table, all-below}
+use Rattle.bpa.specs.Plans.{Table, all-below, moves}
 use Rattle.bpa.specs.Norms.{norms, norm}
 use Rattle.bpa.proofs.Basics.Plans.{step-over, over-one, over-append, over-left, over-right, sum-one}
 use Rattle.bpa.proofs.Rounds.Equivalence.{bisimilar-equivalent, equivalent-append, equivalent-cancel-left, equivalent-cancel-right}
@@ -23,6 +23,10 @@ use Rattle.image.specs.Writing.{write-refusal, written}
 use Rattle.image.proofs.TableBytes.{bytes-of-list, bytes-of-image}
 use Rattle.image.proofs.ImageBack as images
 use Rattle.image.proofs.TableBack as tables
+use Rattle.moves.specs.Shown.{shown}
+use Rattle.moves.proofs.ShownMoves.{once-members, once-apart, once-order}
+use Rattle.moves.proofs.OnlyShown.{once-only}
+use Rattle.moves.proofs.OneCombination as combinations
 use Rattle.moves.proofs.NoSuchMove as nth
 use Rattle.table.proofs.ImageTables.{image-closed, image-passes, layout-passed}
 use Rattle.table.proofs.ImageTables as sources
@@ -129,6 +133,26 @@ norm-fewest t p k o = fewest.norm-fewest t (k .good) p o
 pub moves-exactly : promised.Moves-exactly
 unfolding promised.Moves-exactly
 moves-exactly t x β a q = (moves-are-steps t (x ∷ β) a q, steps-are-moves t (x ∷ β) a q)
+
+pub shown-members : promised.Shown-members
+unfolding promised.Shown-members shown
+shown-members t p = once-members (moves t p)
+
+pub shown-once : promised.Shown-once
+unfolding promised.Shown-once shown
+shown-once t p = once-apart (moves t p)
+
+pub shown-in-order : promised.Shown-in-order
+unfolding promised.Shown-in-order shown
+shown-in-order t p = once-order (moves t p)
+
+pub shown-only : promised.Shown-only
+unfolding promised.Shown-only shown
+shown-only t p = once-only (moves t p)
+
+pub one-combination : promised.One-combination
+unfolding promised.One-combination
+one-combination = combinations.one-combination
 
 pub steps-listed : promised.Steps-listed
 unfolding promised.Steps-listed

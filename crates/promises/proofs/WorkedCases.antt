@@ -1,7 +1,7 @@
 -- EVERY WORKED CASE IS TRUE: one computed proof of the test, and one lemma that turns the test into what the cases mean: what is
 -- computed on the rules of a table is so of the table in the image that is written from them. Assumes nothing.
-use mathlib.Core.Path.{_≡_, refl, sym, ap, ap₂, _∙_, subst}
-use mathlib.Core.Bool.{true, not, false≢true}
+use mathlib.Core.Path.{_≡_, refl, sym, ap, _∙_, subst}
+use mathlib.Core.Bool.{true, not, _&&_}
 use mathlib.Core.List.{List, [], _∷_, List·Memᴰ, List·Memᴰ·not-nil, List·Memᴰ·cases-cons}
 use mathlib.Core.Logic.{_↔_, ⊎-elim}
 use Prim.Native.Nat.{ℕ}
@@ -29,16 +29,19 @@ use Rattle.image.specs.Image.{image-places, table-in, image-refusal}
 use Rattle.image.specs.Writing.{blocks-for, rules-for, body, written-block, written-from, written, list-refusal, write-refusal}
 use Rattle.image.proofs.ListRefusal.{good-list}
 use Rattle.image.proofs.TableBack.{table-held, table-back}
+use Rattle.moves.specs.Shown.{equal-plans, same-move, without, once, shown}
+use Rattle.moves.specs.Moves.{move-bytes}
+use Rattle.moves.proofs.ShownMoves.{plans-equal}
 use Rattle.table.specs.CallRefusals.{one-plan, two-plans}
 use Rattle.table.proofs.ImageTables.{image-table}
 use Rattle.table.proofs.ListTables.{list-closed}
-use Rattle.promises.specs.WorkedCases.{Worked, image-of, read-back, listed, HasNorms, Means, equal-plans, pair-passes, has-form}
+use Rattle.promises.specs.WorkedCases.{Worked, image-of, read-back, listed, HasNorms, Means, plan-passes, pair-passes, has-form}
 use Rattle.promises.specs.WorkedCases.{passes, all-pass, cases, Cases-hold}
-use Rattle.promises.specs.WorkedCases.{Case, refusal-is, byte-is, norms-are, pair-refusal-is, are-same, are-apart, form-is, is-prime}
+use Rattle.promises.specs.WorkedCases.{Case, refusal-is, byte-is, norms-are, pair-refusal-is, are-same, are-apart, form-is, is-prime, move-is}
 
 -- THE COMPUTED PROOF
 cases-pass : all-pass cases ≡ true
-unfolding all-pass passes has-form pair-passes equal-plans all-below job-moves moves sum-of all-known lesser best one-round rounds
+unfolding all-pass passes has-form plan-passes pair-passes equal-plans same-move without once shown move-bytes all-below job-moves moves sum-of all-known lesser best one-round rounds
     norms precedes lowering lower-by candidate itself expand replace grow first-difference turn judge judged answered all-answered matched
     fits holds pairs-of pairs-below first-base keep-fitting round refine final-base first-of least-pair prime-row prime-rows same
     prime-form all-zero move-in rule-in place-good each-place places-good rules-in rule-count table-of any-zero any-above norms-refusal table-refusal or-else
@@ -46,15 +49,6 @@ unfolding all-pass passes has-form pair-passes equal-plans all-below job-moves m
     length-good sum-good rules-fit head-of head-good places-of-block block-good layout-refusal places-from image-jobs image-places table-in
     image-refusal low-first blocks-for rules-for body written-block written-from written list-refusal write-refusal
 cases-pass = refl
-
-plans-equal : (p q : List ℕ) → equal-plans p q ≡ true → p ≡ q
-unfolding equal-plans
-plans-equal [] [] e = refl
-plans-equal [] (y ∷ ys) e = absurd (false≢true e)
-plans-equal (x ∷ xs) [] e = absurd (false≢true e)
-plans-equal (x ∷ xs) (y ∷ ys) e =
-    ap₂ _∷_ (eqb-true x y (and-left (eqb x y) (equal-plans xs ys) e))
-    (plans-equal xs ys (and-right (eqb x y) (equal-plans xs ys) e))
 
 module _ (w : Worked) where
   abbrev writer : ℕ
@@ -109,16 +103,27 @@ module _ (w : Worked) where
         let exact = same-exact (read-back w) (good check-pair e) p q (a .over-table) (b .over-table) in
         (λ s. exact .0 (same-back ∙ s), λ s. sym same-back ∙ exact .1 s)
 
+  -- a row of numbers that is computed from the table is one of the table in the image
+  module _ (p : List ℕ) (row : Table → List ℕ) (is : List ℕ) (e : (plan-passes w p && equal-plans (row (listed w)) is) ≡ true) where
+    abbrev check-plan : Table → ℕ
+    check-plan t = plan-refusal t p
+
+    plan-passed : eqb (or-else writer (check-plan (listed w))) 0 ≡ true
+    unfolding plan-passes
+    plan-passed = and-left (plan-passes w p) (equal-plans (row (listed w)) is) e
+
+    row-back : row (read-back w) ≡ is
+    row-back =
+        ap row (back check-plan plan-passed) ∙ plans-equal (row (listed w)) is (and-right (plan-passes w p) (equal-plans (row (listed w)) is) e)
+
   form-holds : (p f : List ℕ) → has-form w p f ≡ true → (one-plan (image-of w) p ≡ 0) × Form (read-back w) p f
   unfolding has-form
   form-holds p f e =
-      let check : Table → ℕ = λ t. plan-refusal t p in
-      let equal = equal-plans (prime-form (listed w) p) f in
-      let k = and-left (eqb (or-else writer (check (listed w))) 0) equal e in
-      let l = and-right (eqb (or-else writer (check (listed w))) 0) equal e in
-      let is-form = ap (λ (t : Table). prime-form t p) (back check k) ∙ plans-equal (prime-form (listed w) p) f l in
+      let row : Table → List ℕ = λ t. prime-form t p in
+      let check = check-plan p row f e in
+      let k = plan-passed p row f e in
       let over-table = accepted-plan (read-back w) p (check-passed check k) .over-table in
-      (both-passed check k, subst (Form (read-back w) p) is-form (form-exists (read-back w) (good check k) p over-table))
+      (both-passed check k, subst (Form (read-back w) p) (row-back p row f e) (form-exists (read-back w) (good check k) p over-table))
 
 form-prime : (t : Table) (j : ℕ) → Form t (j ∷ []) (j ∷ []) → Prime t j
 form-prime t j f = go (f .lowest)
@@ -148,6 +153,9 @@ case-true (are-apart w p q) e =
     (pair-accepted w p q k, λ b. never-both (same (listed w) p q) (pair-told w p q k .1 b) no)
 case-true (form-is w p f) e = form-holds w p f e
 case-true (is-prime w j) e = form-prime (read-back w) j (form-holds w (j ∷ []) (j ∷ []) e .1)
+case-true (move-is w p n bs) e =
+    let row : Table → List ℕ = λ t. move-bytes (shown t p) n in
+    (both-passed w (check-plan w p row bs e) (plan-passed w p row bs e), row-back w p row bs e)
 
 -- and so are all of a list
 all-true : (cs : List Case) → all-pass cs ≡ true → (c : Case) → List·Memᴰ c cs → Means c

@@ -7,12 +7,13 @@ use mathlib.Core.Logic.{_↔_, _⊎_}
 use Prim.Native.Nat.{ℕ, _+_, _*_, _-_, _≤_, _<_}
 use lib.IntN.{ℤ, pos}
 use lib.ListN.{length, getD, take, drop}
-use Rattle.bpa.specs.Plans.{Step, Runs, moves}
+use Rattle.bpa.specs.Plans.{Step, Runs}
 use Rattle.bpa.specs.Norms.{Fewest}
 use Rattle.bpa.specs.Bisimilar.{Bisimilar, Lowest, Form}
 use Rattle.area.specs.Numbers.{number-at, numbers-in}
 use Rattle.image.specs.Image.{image-refusal, table-in}
-use Rattle.moves.specs.Moves.{move-bytes, first-rules}
+use Rattle.moves.specs.Shown.{shown}
+use Rattle.moves.specs.Moves.{move-bytes}
 use Rattle.table.specs.CallRefusals.{one-plan}
 use Rattle.images.specs.ImageCalls.{Read, Written}
 use Rattle.plans.specs.PlanCalls.{Normed, Moved, Ran}
@@ -44,13 +45,13 @@ Run-written =
     Runs (table-in bs) p (numbers-in (take n o′)) [] × (length (take n o′) ≡ n)
     × ((v : ℕ) × (n ≡ 2 * v) × Fewest (table-in bs) p v)
 
--- the call for the n-th move writes the n-th of the list of moves and answers 0 exactly if there is none; what it writes is a step: its move in
+-- the call for the n-th move writes the n-th move shown and answers 0 exactly if there is none; what it writes is a step: its move in
 -- two bytes, then the remaining plan
 unfoldable pub Move-written : Type 0
 Move-written =
     (bs p o o′ : List ℕ) (i n : ℕ) → Moved bs p i o (pos n) o′ →
-    (take n o′ ≡ move-bytes (moves (table-in bs) p) i)
-    × ((n ≡ 0) ↔ ((p ≡ []) ⊎ (first-rules (table-in bs) p ≤ i)))
+    (take n o′ ≡ move-bytes (shown (table-in bs) p) i)
+    × ((n ≡ 0) ↔ ((p ≡ []) ⊎ (length (shown (table-in bs) p) ≤ i)))
     × (all-bytes bs ≡ true → 0 < n → Step (table-in bs) p (number-at 0 (take n o′)) (drop 2 (take n o′)))
 
 -- every step is written for some index, if the output area is long enough
@@ -59,6 +60,12 @@ Steps-written =
     (bs p q : List ℕ) (a : ℕ) → all-bytes bs ≡ true → one-plan bs p ≡ 0 → Step (table-in bs) p a q →
     (i : ℕ) × ((o o′ : List ℕ) (r : ℤ) (n : ℕ) → n ≡ 2 + length q → n ≤ length o → Moved bs p i o r o′ →
     (r ≡ pos n) × (number-at 0 (take n o′) ≡ a) × (drop 2 (take n o′) ≡ q))
+
+-- and for one index only: no two indexes write the same
+unfoldable pub Moves-written-once : Type 0
+Moves-written-once =
+    (bs p o o′ u u′ : List ℕ) (i k n : ℕ) → all-bytes bs ≡ true → Moved bs p i o (pos n) o′ → Moved bs p k u (pos n) u′ → 0 < n →
+    take n o′ ≡ take n u′ → i ≡ k
 
 -- compare answers 1 exactly for bisimilar plans and 0 exactly for others, whatever the workspaces held
 unfoldable pub Compare-tells : Type 0

@@ -39,6 +39,11 @@ pub record EveryPromise : Type 1 where
   pub norm-fewest : promises.Norm-fewest
   -- MOVES
   pub moves-exactly : promises.Moves-exactly
+  pub shown-members : promises.Shown-members
+  pub shown-once : promises.Shown-once
+  pub shown-in-order : promises.Shown-in-order
+  pub shown-only : promises.Shown-only
+  pub one-combination : promises.One-combination
   pub steps-listed : promises.Steps-listed
   pub no-such-move : promises.No-such-move
   pub moves-over : promises.Moves-over
@@ -63,6 +68,7 @@ pub record EveryPromise : Type 1 where
   pub run-written : calls.Run-written
   pub move-written : calls.Move-written
   pub steps-written : calls.Steps-written
+  pub moves-written-once : calls.Moves-written-once
   pub compare-tells : calls.Compare-tells
   pub form-written : calls.Form-written
   pub stands-written : calls.Stands-written

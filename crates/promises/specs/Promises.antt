@@ -7,7 +7,7 @@ use mathlib.Core.List.{List, [], _∷_, _++_, List·Memᴰ}
 use mathlib.Core.Logic.{_↔_, _⊎_}
 use Prim.Native.Nat.{ℕ, _≤_, _<_}
 use lib.ListN.{length, drop}
-use Rattle.bpa.specs.Plans.{Table, Move, all-below, over, HasRule, Step, moves}
+use Rattle.bpa.specs.Plans.{Rule, Table, Move, all-below, over, HasRule, Step, moves}
 use Rattle.bpa.specs.Norms.{norm, Fewest, Endless}
 use Rattle.bpa.specs.Bisimilar.{Approx, Any-bisimulation, Bisimilar, Lowest, Form}
 use Rattle.bpa.specs.Method.{same, prime-form}
@@ -16,7 +16,8 @@ use Rattle.rules.specs.Places.{table-of, table-bytes}
 use Rattle.refusal.specs.Refusals.{table-refusal, plan-refusal, plans-refusal, Closed, Accepted}
 use Rattle.image.specs.Image.{layout-refusal, image-refusal, image-jobs, image-places, table-in}
 use Rattle.image.specs.Writing.{list-refusal, write-refusal, written}
-use Rattle.moves.specs.Moves.{move-bytes, first-rules}
+use Rattle.moves.specs.Shown.{shown, At, ByFirstPlaces, move-by}
+use Rattle.moves.specs.Moves.{move-bytes}
 
 unfoldable pub all-bytes : List ℕ → Bool
 all-bytes xs = all-below 256 xs
@@ -130,15 +131,37 @@ Moves-exactly =
     (t : Table) (x : ℕ) (β : List ℕ) (a : ℕ) (q : List ℕ) →
     List·Memᴰ {A = Move} (record { move = a; rest = q }) (moves t (x ∷ β)) ↔ ((w : List ℕ) × HasRule t x a w × (q ≡ w ++ β))
 
--- each step is the n-th move for some n below the number of the first job's rules: its move in two bytes, then the remaining plan
+-- the moves shown are those of the list of moves
+unfoldable pub Shown-members : Type 0
+Shown-members = (t : Table) (p : List ℕ) (m : Move) → List·Memᴰ m (shown t p) ↔ List·Memᴰ m (moves t p)
+
+-- no combination of move and remaining plan is shown twice
+unfoldable pub Shown-once : Type 0
+Shown-once = (t : Table) (p : List ℕ) (m : Move) (i k : ℕ) → At (shown t p) i m → At (shown t p) k m → i ≡ k
+
+-- each is shown at its first place: what is shown earlier stands first at an earlier place of the list of moves
+unfoldable pub Shown-in-order : Type 0
+Shown-in-order = (t : Table) (p : List ℕ) → ByFirstPlaces (moves t p) (shown t p)
+
+-- and no other list has the same members and that order
+unfoldable pub Shown-only : Type 0
+Shown-only =
+    (t : Table) (p : List ℕ) (l : List Move) → ((m : Move) → List·Memᴰ m l ↔ List·Memᴰ m (moves t p)) → ByFirstPlaces (moves t p) l →
+    l ≡ shown t p
+
+-- two rules of a job give one combination exactly if their moves and rows are equal, whatever waits behind the job
+unfoldable pub One-combination : Type 0
+One-combination = (r s : Rule) (js : List ℕ) → (move-by r js ≡ move-by s js) ↔ ((r .move ≡ s .move) × (r .after ≡ s .after))
+
+-- each step is the n-th move shown for some n below their number: its move in two bytes, then the remaining plan
 unfoldable pub Steps-listed : Type 0
 Steps-listed =
     (t : Table) (p q : List ℕ) (a : ℕ) → Step t p a q →
-    (n : ℕ) × (n < first-rules t p) × (move-bytes (moves t p) n ≡ low-first a ++ q)
+    (n : ℕ) × (n < length (shown t p)) × (move-bytes (shown t p) n ≡ low-first a ++ q)
 
--- there is no n-th move exactly if the plan is empty, or n is not below the number of the first job's rules
+-- there is no n-th move exactly if the plan is empty, or n is not below the number of moves shown
 unfoldable pub No-such-move : Type 0
-No-such-move = (t : Table) (p : List ℕ) (n : ℕ) → (move-bytes (moves t p) n ≡ []) ↔ ((p ≡ []) ⊎ (first-rules t p ≤ n))
+No-such-move = (t : Table) (p : List ℕ) (n : ℕ) → (move-bytes (shown t p) n ≡ []) ↔ ((p ≡ []) ⊎ (length (shown t p) ≤ n))
 
 -- moves keep a plan over its table
 unfoldable pub Moves-over : Type 0

@@ -1,9 +1,9 @@
--- The worked tables of document 01 marked P, two of them from 000, and one whose moves need two bytes: one list of cases, what each means, and one
--- test over them.
+-- The worked tables of document 01 marked P, two of them from 000, one whose moves need two bytes, and one with a choice written again and again: one
+-- list of cases, what each means, and one test over them.
 -- The test computes on the rules of a table; the meaning is of the image that is written from them. Assumes nothing: these are
 -- definitions.
 use mathlib.Core.Path.{_≡_}
-use mathlib.Core.Bool.{Bool, true, false, not, _&&_}
+use mathlib.Core.Bool.{Bool, true, not, _&&_}
 use mathlib.Core.List.{List, [], _∷_, _++_, List·Memᴰ}
 use Prim.Native.Nat.{ℕ, _<_}
 use lib.Dec.{eqb}
@@ -17,6 +17,8 @@ use Rattle.answer.specs.Refusals.{or-else}
 use Rattle.refusal.specs.Refusals.{plan-refusal, plans-refusal}
 use Rattle.image.specs.Image.{table-in, image-refusal}
 use Rattle.image.specs.Writing.{written, list-refusal, write-refusal}
+use Rattle.moves.specs.Shown.{equal-plans, shown}
+use Rattle.moves.specs.Moves.{move-bytes}
 use Rattle.table.specs.CallRefusals.{one-plan, two-plans}
 
 -- A WORKED TABLE: a job count, and the rules as 8-byte places in a row
@@ -45,6 +47,8 @@ pub data Case : Type 0 where
   are-apart : (w : Worked) (left right : List ℕ) → Case
   form-is : (w : Worked) (plan form : List ℕ) → Case
   is-prime : (w : Worked) (job : ℕ) → Case
+  -- the n-th move shown as bytes; none is no such move
+  move-is : (w : Worked) (plan : List ℕ) (n : ℕ) (bytes : List ℕ) → Case
 
 -- a job of norm 0 has no run to its end
 abbrev pub HasNorms : Table → (jobs : ℕ) → (by-job : List ℕ) → Type 0
@@ -61,21 +65,18 @@ Means (are-same w p q) = (two-plans (image-of w) p q ≡ 0) × Bisimilar (read-b
 Means (are-apart w p q) = (two-plans (image-of w) p q ≡ 0) × (Bisimilar (read-back w) p q → ⊥)
 Means (form-is w p f) = (one-plan (image-of w) p ≡ 0) × Form (read-back w) p f
 Means (is-prime w j) = Prime (read-back w) j
+Means (move-is w p n bs) = (one-plan (image-of w) p ≡ 0) × (move-bytes (shown (read-back w) p) n ≡ bs)
 
 -- THE TEST
-unfoldable pub equal-plans : (p q : List ℕ) → Bool
-equal-plans [] [] = true
-equal-plans [] (y ∷ ys) = false
-equal-plans (x ∷ xs) [] = false
-equal-plans (x ∷ xs) (y ∷ ys) = eqb x y && equal-plans xs ys
-
 -- no refusal meets the list and the plans
 unfoldable pub pair-passes : (w : Worked) → (p q : List ℕ) → Bool
 pair-passes w p q = eqb (or-else (write-refusal (w .jobs) (w .rules)) (plans-refusal (listed w) p q)) 0
 
+unfoldable pub plan-passes : (w : Worked) → (p : List ℕ) → Bool
+plan-passes w p = eqb (or-else (write-refusal (w .jobs) (w .rules)) (plan-refusal (listed w) p)) 0
+
 unfoldable pub has-form : (w : Worked) → (p f : List ℕ) → Bool
-has-form w p f =
-    eqb (or-else (write-refusal (w .jobs) (w .rules)) (plan-refusal (listed w) p)) 0 && equal-plans (prime-form (listed w) p) f
+has-form w p f = plan-passes w p && equal-plans (prime-form (listed w) p) f
 
 unfoldable pub passes : Case → Bool
 passes (refusal-is w f) = eqb (write-refusal (w .jobs) (w .rules)) f && eqb (image-refusal (image-of w)) f
@@ -86,6 +87,7 @@ passes (are-same w p q) = pair-passes w p q && same (listed w) p q
 passes (are-apart w p q) = pair-passes w p q && not (same (listed w) p q)
 passes (form-is w p f) = has-form w p f
 passes (is-prime w j) = has-form w (j ∷ []) (j ∷ [])
+passes (move-is w p n bs) = plan-passes w p && equal-plans (move-bytes (shown (listed w) p) n) bs
 
 unfoldable pub all-pass : List Case → Bool
 all-pass [] = true
@@ -140,6 +142,14 @@ larger-moves =
       rules = (0 ∷ 232 ∷ 0 ∷ 0 ∷ 0 ∷ 0 ∷ 0 ∷ 3 ∷ []) ++ to-none 1 232 ++ (2 ∷ 232 ∷ 0 ∷ 0 ∷ 0 ∷ 0 ∷ 0 ∷ 3 ∷ []);
     }
 
+-- a choice written three times, with another one between them, and the same move and row under another job
+abbrev pub choice-repeated : Worked
+choice-repeated =
+    record {
+      jobs = 2;
+      rules = to-one 0 97 1 ++ to-one 1 97 1 ++ to-one 0 97 1 ++ to-none 0 98 ++ to-none 1 97 ++ to-one 0 97 1 ++ to-none 0 97;
+    }
+
 abbrev pub cases : List Case
 cases =
     refusal-is table-t 0 ∷ byte-is table-t 510 152 ∷ byte-is table-t 511 1 ∷ norms-are table-t (1 ∷ 2 ∷ 3 ∷ 2 ∷ []) ∷
@@ -156,7 +166,11 @@ cases =
     refusal-is back-to-itself 6 ∷ norms-are back-to-itself (0 ∷ []) ∷
     refusal-is back-or-done 0 ∷ norms-are back-or-done (1 ∷ []) ∷
     refusal-is larger-moves 0 ∷ byte-is larger-moves 9 3 ∷ are-apart larger-moves (0 ∷ []) (1 ∷ []) ∷
-    are-same larger-moves (0 ∷ []) (2 ∷ []) ∷ form-is larger-moves (2 ∷ []) (0 ∷ []) ∷ []
+    are-same larger-moves (0 ∷ []) (2 ∷ []) ∷ form-is larger-moves (2 ∷ []) (0 ∷ []) ∷
+    move-is larger-moves (0 ∷ 1 ∷ []) 0 (232 ∷ 3 ∷ 1 ∷ []) ∷
+    move-is choice-repeated (0 ∷ 1 ∷ []) 0 (97 ∷ 0 ∷ 1 ∷ 1 ∷ []) ∷ move-is choice-repeated (0 ∷ 1 ∷ []) 1 (98 ∷ 0 ∷ 1 ∷ []) ∷
+    move-is choice-repeated (0 ∷ 1 ∷ []) 2 (97 ∷ 0 ∷ 1 ∷ []) ∷ move-is choice-repeated (0 ∷ 1 ∷ []) 3 [] ∷
+    move-is choice-repeated (1 ∷ []) 1 (97 ∷ 0 ∷ []) ∷ move-is choice-repeated (1 ∷ []) 2 [] ∷ move-is choice-repeated [] 0 [] ∷ []
 
 -- EVERY CASE IS TRUE
 unfoldable pub Cases-hold : Type 0

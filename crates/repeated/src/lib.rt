@@ -1,18 +1,18 @@
-// Rules that are written twice. Whatever a rule does, an earlier one that is equal to it does too, so the rounds need not look at it.
+// Rules that are written twice. Whatever a rule does, an earlier one that is equal to it does too, so the rounds need not look at it, and its
+// move is shown already.
 use area::wide;
 use rows::same_row;
 use rules::rule_total;
 ghost use mathlib.Core.Path.{_≡_};
-ghost use mathlib.Core.Bool.{true};
-ghost use Prim.Native.Nat.{_*_, _≤_, _<_};
-ghost use lib.ListN.{length, take, drop};
+ghost use Prim.Native.Nat.{_≤_, _<_};
+ghost use lib.ListN.{length};
 ghost use Rattle.rules.specs.Places.{rule-count};
-ghost use Rattle.repeated.specs.Repeated.{Repeated, RepeatsMarked};
+ghost use Rattle.repeated.specs.Repeated.{RepeatsMarked, place-at, IsBucket, Stands};
 
 // The eight bytes of a rule.
-fn place(rules: &[u8], i: usize) -> &[u8]
+pub fn place(rules: &[u8], i: usize) -> &[u8]
     requires { ⌜ i < rule-count (now rules) ⌝ }
-    ensures { λ r. ⌜ now r ≡ take 8 (drop (8 * i) (now (rules .entry))) ⌝ }
+    ensures { λ r. ⌜ now r ≡ place-at (now (rules .entry)) i ⌝ }
 {
     let start = 8 * i;
     let end = start + 8;
@@ -20,9 +20,9 @@ fn place(rules: &[u8], i: usize) -> &[u8]
 }
 
 // A number below 64 for the bytes of a rule. Equal rules have equal ones, and few others do.
-fn bucket(place: &[u8]) -> usize
+pub fn bucket(place: &[u8]) -> usize
     requires { ⌜ length (now place) ≡ 8 ⌝ }
-    ensures { λ r. ⌜ r < 64 ⌝ }
+    ensures { λ r. ⌜ IsBucket (now (place .entry)) r ⌝ }
 {
     let head = wide(place[0]) + 5 * (wide(place[1]) + wide(place[7])) + 7 * wide(place[2]);
     let front = 11 * wide(place[3]) + 23 * wide(place[4]);
@@ -32,9 +32,9 @@ fn bucket(place: &[u8]) -> usize
 
 // Whether a rule is equal to an earlier one of its bucket, whose last rule is given. From each rule a link leads back to the one before it
 // in its bucket; 255 ends them.
-fn stands(rules: &[u8], links: &[u8; 252], last: usize, i: usize) -> bool
+pub fn stands(rules: &[u8], links: &[u8; 252], last: usize, i: usize) -> bool
     requires { ⌜ (i < rule-count (now rules)) × (rule-count (now rules) ≤ 252) ⌝ }
-    ensures { λ r. ⌜ (r ≡ true → Repeated (now (rules .entry)) i) ⌝ }
+    ensures { λ r. ⌜ Stands (now (rules .entry)) (now (links .entry)) last i r ⌝ }
 {
     let mut k = last;
     while k < i {

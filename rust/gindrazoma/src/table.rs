@@ -105,11 +105,18 @@ impl Table {
         Ok(run.as_chunks().0.iter().map(|&action| u16::from_le_bytes(action)).collect())
     }
 
-    /// The move of a plan at an index, one for each rule of its first job in image order.
+    /// The move of a plan at an index, which counts each combination of move and remaining plan once: at the first rule of the
+    /// plan's first job that gives it, in image order.
     #[inline]
     pub fn nth_move(&self, plan: &[u8], index: u32) -> Result<Option<Move>, Refusal> {
         let out = written(raw::MOVE_MAX, |out| raw::nth_move(&self.image, plan, index, out))?;
         Ok(out.split_first_chunk().map(|(&action, rest)| Move { action: u16::from_le_bytes(action), rest: rest.to_vec() }))
+    }
+
+    /// All moves of a plan in the order of their indexes, each combination of move and remaining plan once. Every one of them is
+    /// a call of the library.
+    pub fn moves(&self, plan: &[u8]) -> Result<Vec<Move>, Refusal> {
+        (0..).map_while(|index| self.nth_move(plan, index).transpose()).collect()
     }
 
     /// Whether two plans are bisimilar.

@@ -26,6 +26,51 @@ fn moves() {
     assert_eq!(t.nth_move(&[9], 0), Err(Refusal::NoSuchJob));
 }
 
+/// Job 1 has seven rules; the third and fifth repeat the first, the sixth repeats the second. The fourth has another row than the
+/// first, the last another high byte. Job 0 has the first rule, too.
+fn table_with_repeated_rules() -> Table {
+    let rules = [
+        Rule::new(1, 97, &[]),
+        Rule::new(1, 97, &[0]),
+        Rule::new(0, 97, &[]),
+        Rule::new(1, 97, &[]),
+        Rule::new(1, 97, &[0, 0]),
+        Rule::new(1, 97, &[]),
+        Rule::new(1, 97, &[0]),
+        Rule::new(1, 353, &[]),
+    ];
+    Table::from_rules(2, &rules).unwrap()
+}
+
+#[test]
+fn repeated_rules() {
+    let t = table_with_repeated_rules();
+    let wanted: [(u16, &[u8]); 4] = [(97, &[0, 1]), (97, &[0, 0, 1]), (97, &[0, 0, 0, 1]), (353, &[0, 1])];
+    for (index, (action, rest)) in (0..).zip(wanted) {
+        assert_eq!(t.nth_move(&[1, 0, 1], index), Ok(Some(Move { action, rest: rest.to_vec() })));
+    }
+    for index in [4, 5, 6, 7, u32::MAX] {
+        assert_eq!(t.nth_move(&[1, 0, 1], index), Ok(None));
+    }
+    assert_eq!(t.nth_move(&[0, 1], 0), Ok(Some(Move { action: 97, rest: vec![1] })));
+    assert_eq!(t.nth_move(&[0, 1], 1), Ok(None));
+    assert_eq!(t.rules().len(), 8);
+    assert_eq!(t.norm(&[1, 0, 1]), Ok(3));
+}
+
+#[test]
+fn lists_of_moves() {
+    let t = table_with_repeated_rules();
+    let wanted: [(u16, &[u8]); 4] = [(97, &[]), (97, &[0]), (97, &[0, 0]), (353, &[])];
+    assert_eq!(t.moves(&[1]), Ok(wanted.map(|(action, rest)| Move { action, rest: rest.to_vec() }).to_vec()));
+    assert_eq!(t.moves(&[]), Ok(vec![]));
+    assert_eq!(t.moves(&[2]), Err(Refusal::NoSuchJob));
+    assert_eq!(t.moves(&[0; 4097]), Err(Refusal::PlanNormHigh));
+    let rules: Vec<Rule> = (0..252).map(|action| Rule::new(0, action, &[])).collect();
+    let actions: Vec<u16> = Table::from_rules(1, &rules).unwrap().moves(&[0]).unwrap().iter().map(|m| m.action).collect();
+    assert_eq!(actions, (0..252).collect::<Vec<u16>>());
+}
+
 #[test]
 fn moves_of_two_bytes() {
     let moves = [0, 255, 256, 353, 65535];

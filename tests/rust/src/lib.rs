@@ -5,6 +5,7 @@ pub mod harness;
 pub mod old_format;
 pub mod play;
 pub mod refusals;
+pub mod repeated;
 pub mod rng;
 pub mod second;
 pub mod shapes;

@@ -1,6 +1,6 @@
 //! Tables and plans by the definitions: moves, images, norms. Written from the documents and not from the library.
 use std::cmp::Reverse;
-use std::collections::{BTreeSet, BinaryHeap};
+use std::collections::{BTreeSet, BinaryHeap, HashSet};
 
 pub type Plan = Vec<u8>;
 
@@ -62,10 +62,13 @@ impl Table {
         self.rules.iter().map(Rule::place).collect::<BTreeSet<_>>().len()
     }
 
-    /// The moves of a plan: only its first job moves, and the jobs behind it wait.
+    /// The moves of a plan: only its first job moves, and the jobs behind it wait. Each move with a remaining plan is there once, at
+    /// its first place.
     pub fn moves(&self, plan: &[u8]) -> Vec<(u16, Plan)> {
         let Some((&first, behind)) = plan.split_first() else { return Vec::new() };
-        self.rules_of(first).map(|r| (r.action, [&r.after, behind].concat())).collect()
+        let mut met = HashSet::new();
+        let all = self.rules_of(first).map(|r| (r.action, [&r.after, behind].concat()));
+        all.filter(|m| met.insert(m.clone())).collect()
     }
 
     /// Norms by Knuth's way: the cheapest job that can be settled next is settled. None: no run ends.

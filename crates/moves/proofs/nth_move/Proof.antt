@@ -14,6 +14,7 @@ use lib.Seq.{take-all}
 use Rattle.bpa.specs.Plans.{moves}
 use Rattle.rules.specs.Places.{rule-at, rule-count, table-of}
 use Rattle.rules.proofs.ListLaws.{good-has-place}
+use Rattle.moves.specs.Shown.{once, shown}
 use Rattle.moves.specs.Moves.{move-bytes, bytes-by, IsNth}
 use Rattle.area.specs.Areas.{put}
 use Rattle.area.specs.Numbers.{low-first}
@@ -24,11 +25,11 @@ use Rattle.moves.proofs.nth_move.Tie as tie
 
 -- the move that was found, or none
 none-found : (n : ℕ) (rs p : List ℕ) (k i : ℕ) → 0 < length p → IsNth rs (getD p 0 0) k i → rule-count rs ≤ i →
-    move-bytes (moves (table-of n rs) p) k ≡ []
+    move-bytes (shown (table-of n rs) p) k ≡ []
 none-found n rs p k i h f l = moved n rs p k i h f ∙ ap (λ (b : Bool). cond b (bytes-by rs i (drop 1 p)) []) (le-ltb i (rule-count rs) l)
 
 one-found : (n : ℕ) (rs p : List ℕ) (k i : ℕ) → 0 < length p → IsNth rs (getD p 0 0) k i → i < rule-count rs →
-    move-bytes (moves (table-of n rs) p) k ≡ bytes-by rs i (drop 1 p)
+    move-bytes (shown (table-of n rs) p) k ≡ bytes-by rs i (drop 1 p)
 one-found n rs p k i h f l = moved n rs p k i h f ∙ ap (λ (b : Bool). cond b (bytes-by rs i (drop 1 p)) []) (lt-ltb i (rule-count rs) l)
 
 -- its length
@@ -46,12 +47,12 @@ empty [] e = refl
 empty (x ∷ xs) e = absurd (omega arith)
 
 returns : tie.Need-returns
-unfolding moves move-bytes
+unfolding shown moves once move-bytes
 returns c =
     let s = c .before .before .before .before in
     let p = s .args .plan .now in
     let e : p ≡ [] = empty p (c .if1 .taken) in
-    nothing _ (s .args .out .now) (ap (λ (l : List ℕ). move-bytes (moves (table-of (s .args .jobs) (s .args .rules .now)) l) (s .args .index)) e)
+    nothing _ (s .args .out .now) (ap (λ (l : List ℕ). move-bytes (shown (table-of (s .args .jobs) (s .args .rules .now)) l) (s .args .index)) e)
 
 shared-slice-read-job : tie.Need-shared-slice-read-job
 shared-slice-read-job c = search needs
@@ -60,7 +61,7 @@ cast-job : tie.Need-cast-job
 cast-job c = omega (arith, c .shared-slice-known3 .given 0)
 
 find-rule-requires : tie.Need-find-rule-requires
-find-rule-requires c κs = search needs
+find-rule-requires c κs = c .before .before .before .before .before .pre .0
 
 rule-total-requires : tie.Need-rule-total-requires
 rule-total-requires c κs = search needs
@@ -157,7 +158,7 @@ returns-4 c =
     let i = at-find .find-rule .result in
     let h = not-empty (at-len .before) in
     let e = one-found (s .args .jobs) rs p (s .args .index) i h (at-find .find-rule .ensures) (there (at-len .before)) in
-    let w : bytes-by rs i (take (length p - 1) (drop 1 p)) ≡ move-bytes (moves (table-of (s .args .jobs) rs) p) (s .args .index) =
+    let w : bytes-by rs i (take (length p - 1) (drop 1 p)) ≡ move-bytes (shown (table-of (s .args .jobs) rs) p) (s .args .index) =
     ap (bytes-by rs i) (waiting p) ∙ sym e in
     written _ o (omega (arith, ap length e, bytes-length rs i p h, at-len .rule-len .ensures .is, at-write .before .before .before .if3 .left))
     (toZ-ofZ w32 (c .result .result) (record { sfits = c .result .ok }) ∙ c .result .ensures ∙ ap pos (omega (arith, at-write .write-move .ensures .next, ap length w)))

@@ -47,7 +47,7 @@ bucket-requires c κs =
     ap length (c .place .ensures) ∙ place-length (start (c .before) .args .rules .now) (c .before .before .loop .i) (inside (c .before))
 
 array-read-wide : tie.Need-array-read-wide Inv-loop μ-loop
-array-read-wide c = c .before .bucket .ensures
+array-read-wide c = c .before .bucket .ensures .small
 
 wide-requires : tie.Need-wide-requires Inv-loop μ-loop
 wide-requires c κs = search needs
@@ -60,7 +60,7 @@ stands-requires c κs =
 array-write-marks : tie.Need-array-write-marks Inv-loop μ-loop
 array-write-marks c =
     let b = c .before .before .before .before in
-    omega (arith, b .bucket .ensures, small (b .before .before))
+    omega (arith, b .bucket .ensures .small, small (b .before .before))
 
 loop-less : tie.Need-loop-less Inv-loop μ-loop
 loop-less c = omega (arith, c .before .before .before .before .before .before .loop-test .taken)
@@ -69,10 +69,10 @@ loop-again : tie.Need-loop-again Inv-loop μ-loop
 loop-again c =
     let turn = c .before .before .before .before .before .before in
     let at = turn .before .loop in
-    (at .inv .0, one-marked (start turn .args .rules .now) (at .marks) (at .i) (at .inv .1) (c .before .stands .ensures (c .if1 .taken)))
+    (at .inv .0, one-marked (start turn .args .rules .now) (at .marks) (at .i) (at .inv .1) (c .before .stands .ensures .yes (c .if1 .taken)))
 
 array-read-links : tie.Need-array-read-links Inv-loop μ-loop
-array-read-links c = c .before .before .before .before .bucket .ensures
+array-read-links c = c .before .before .before .before .bucket .ensures .small
 
 array-write-links : tie.Need-array-write-links Inv-loop μ-loop
 array-write-links c = small (c .before .before .before .before .before .before)
@@ -81,7 +81,7 @@ cast-last : tie.Need-cast-last Inv-loop μ-loop
 cast-last c = omega (arith, small (c .before .before .before .before .before .before))
 
 array-write-last : tie.Need-array-write-last Inv-loop μ-loop
-array-write-last c = c .before .before .before .before .bucket .ensures
+array-write-last c = c .before .before .before .before .bucket .ensures .small
 
 loop-less-2 : tie.Need-loop-less-2 Inv-loop μ-loop
 loop-less-2 c = omega (arith, c .before .before .before .before .before .before .loop-test .taken)

@@ -1,26 +1,30 @@
-//! ages WIDTH SEED COUNT: what all seven calls answer and write about images as they were before version 2.0.0, some of them
-//! damaged. Moves are printed as numbers; WIDTH is the bytes of a move that the archive writes, 1 before 2.0.0 and 2 since. An
-//! archive of before and one of now print the same.
+//! ages AGE SEED COUNT: what all seven calls answer and write about images as they were before version 2.0.0, some of them
+//! damaged. AGE is the first number of the archive's version. Archives of every age print the same:
 //!
-//! Images with larger moves are among the damaged ones: before, they were refused by 5. Of these the answers of an archive of now
-//! are not printed, but what one of before should answer.
+//! - Moves are printed as numbers. An archive of age 1 writes them in one byte, later ones in two.
+//! - The n-th move is that of an index that counts each move with its remaining plan once. Archives before age 3 count each rule;
+//!   of these the move is printed that is left at the index once repeated ones are dropped.
+//! - Images with larger moves are among the damaged ones: at age 1 they were refused by 5. Of these the answers of later archives
+//!   are not printed, but what one of age 1 should answer.
 use gindrazoma::raw;
 use outside::damage::damaged;
 use outside::old_format;
 use outside::refusals::{good_place, of_frame, of_layout, of_list, places_of_image};
+use outside::repeated::write_again;
 use outside::rng::Rng;
 use outside::shapes::{Made, SHAPES};
-use outside::table::{seal, Plan};
+use outside::table::{seal, Plan, Table};
+use std::collections::HashSet;
 use std::io::{BufWriter, Write};
 use std::process::ExitCode;
 
 fn main() -> ExitCode {
     let words: Vec<u64> = std::env::args().skip(1).filter_map(|word| word.parse().ok()).collect();
-    let &[width @ (1 | 2), seed, count] = &words[..] else {
-        eprintln!("words: the bytes of a move (1 or 2), a seed, how many images");
+    let &[age @ 1..=3, seed, count] = &words[..] else {
+        eprintln!("words: the first number of the archive's version (1 to 3), a seed, how many images");
         return ExitCode::from(2);
     };
-    match print(width as usize, seed, count) {
+    match print(age, seed, count) {
         Ok(()) => ExitCode::SUCCESS,
         Err(fault) => {
             eprintln!("{fault}");
@@ -29,21 +33,25 @@ fn main() -> ExitCode {
     }
 }
 
-fn print(width: usize, seed: u64, count: u64) -> std::io::Result<()> {
+fn print(age: u64, seed: u64, count: u64) -> std::io::Result<()> {
     let mut out = BufWriter::new(std::io::stdout().lock());
-    let (mut accepted, mut larger) = (0, 0);
+    let (mut accepted, mut larger, mut repeated) = (0, 0, 0);
     for i in 0..count {
         let question = Question::new(&mut Rng::of_iteration(seed, "ages", i));
-        let answers = question.answers(width);
+        let answers = question.answers(age);
         for (call, answer) in CALLS.iter().zip(answers) {
-            let answer = if width == 2 && question.refused_before(call) { "-5".to_string() } else { answer };
+            let answer = if age > 1 && question.refused_before(call) { "-5".to_string() } else { answer };
             writeln!(out, "{i} {call} {answer}")?;
         }
         accepted += u64::from(old_format::read(&question.image).is_ok());
         larger += u64::from(question.larger_moves());
+        repeated += u64::from(question.repeated_moves());
     }
     let refused = count - accepted - larger;
-    writeln!(out, "{count} images: {accepted} accepted, {refused} refused, {larger} with larger moves")
+    writeln!(
+        out,
+        "{count} images: {accepted} accepted, {repeated} of them with repeated moves, {refused} refused, {larger} with larger moves"
+    )
 }
 
 const CALLS: [&str; 7] = ["read_image", "write_image", "plan_norm", "shortest_run", "nth_move", "compare", "prime_form"];
@@ -62,6 +70,9 @@ impl Question {
     fn new(rng: &mut Rng) -> Question {
         let mut made = Made::new(*rng.pick(&SHAPES), rng);
         made.table.rules.iter_mut().for_each(|r| r.action %= 256);
+        if rng.once_in(2) {
+            write_again(rng, &mut made.table);
+        }
         let mut image = made.table.image();
         match rng.below(4) {
             0 => image = damaged(rng, &image),
@@ -76,12 +87,19 @@ impl Question {
             right.push(rng.byte());
         }
         let jobs = if framed { image[0].into() } else { made.table.jobs as u32 };
-        Question { image, jobs, rules, left, right, index: rng.below(4) as u32 }
+        Question { image, jobs, rules, left, right, index: rng.below(8) as u32 }
     }
 
     /// Whether only larger moves are why the image was refused by 5.
     fn larger_moves(&self) -> bool {
         old_format::read(&self.image) == Err(5) && of_layout(&self.image, good_place) == 0
+    }
+
+    /// Whether two rules of the left plan's first job are the same.
+    fn repeated_moves(&self) -> bool {
+        let rules_and_moves =
+            |table: Table| (self.left.first().map_or(0, |&j| table.rules_of(j).count()), table.moves(&self.left).len());
+        old_format::read(&self.image).map(rules_and_moves).is_ok_and(|(rules, moves)| moves < rules)
     }
 
     /// Whether a call refused the image, or the rules, by 5 for larger moves only.
@@ -92,16 +110,33 @@ impl Question {
         }
     }
 
+    /// The index at which an archive that counts each rule gives the move that one of now gives at the index asked for; or where it
+    /// refuses, or has no such move.
+    fn index_among_rules(&self) -> u32 {
+        let mut met = HashSet::new();
+        let (mut out, mut at) = (vec![0; raw::MOVE_MAX], 0);
+        loop {
+            let answer = raw::nth_move(&self.image, &self.left, at, &mut out);
+            let new = answer > 0 && met.insert(out[..answer as usize].to_vec());
+            if answer <= 0 || new && met.len() > self.index as usize {
+                return at;
+            }
+            at += 1;
+        }
+    }
+
     /// In the order of the calls.
-    fn answers(&self, width: usize) -> [String; 7] {
+    fn answers(&self, age: u64) -> [String; 7] {
         let Question { image, jobs, rules, left, right, index } = self;
+        let width = if age == 1 { 1 } else { 2 };
+        let index = if age < 3 { self.index_among_rules() } else { *index };
         let mut space = vec![0; raw::WORKSPACE];
         [
             written(|out| raw::read_image(image, out), 1, 0),
             written(|out| raw::write_image(*jobs, rules, out), 1, 0),
             raw::plan_norm(image, left).to_string(),
             written(|out| raw::shortest_run(image, left, out), width, usize::MAX),
-            written(|out| raw::nth_move(image, left, *index, out), width, 1),
+            written(|out| raw::nth_move(image, left, index, out), width, 1),
             raw::compare(image, left, right, &mut space).to_string(),
             written(|out| raw::prime_form(image, right, out, &mut space), 1, 0),
         ]

@@ -1,21 +1,25 @@
 //! Norms of plans, moves by index, shortest runs.
-use gindrazoma::raw::{nth_move, plan_norm, shortest_run};
+use gindrazoma::raw::{nth_move, plan_norm, read_image, shortest_run, READ_MAX};
 use outside::area::Area;
 use outside::damage::damaged;
 use outside::harness::{Outcome, Suite};
 use outside::refusals::of_plans;
+use outside::repeated::{kinds, nearly_repeated, KINDS};
 use outside::rng::Rng;
 use outside::shapes::{Made, EDGES, SHAPES};
 use outside::table::{rule, Plan, Table};
 use outside::{ensure, ensure_eq};
+use std::collections::BTreeMap;
 use std::process::ExitCode;
 
 fn main() -> ExitCode {
     let mut suite = Suite::new();
     suite.fixed("plans to try", plans_to_try);
     suite.fixed("moves of two bytes", moves_of_two_bytes);
+    suite.fixed("every kind of repeated rule", kinds_of_repeated_rules);
     suite.random("norms", 6000, norms);
     suite.random("every move of a plan", 1500, every_move);
+    suite.random("repeated rules", 500, repeated_rules);
     suite.random("shortest runs", 3000, shortest_runs);
     suite.random("long plans", 300, long_plans);
     suite.random("refused calls", 8000, refused_calls);
@@ -112,17 +116,55 @@ fn every_move(rng: &mut Rng) -> Outcome {
     let image = made.table.image();
     let tail = made.plan(rng, 1000);
     for j in 0..made.table.jobs as u8 {
-        let plan = [&[j], &tail[..]].concat();
-        let moves = made.table.moves(&plan);
-        for (i, wanted) in moves.iter().enumerate() {
-            moves_at(rng, &image, &plan, i as u32, Some(wanted))?;
-        }
-        let count = moves.len() as u32;
-        for index in [count, count + 1, count + 256, count + 65536, u32::MAX, count.max(rng.number() as u32)] {
-            moves_at(rng, &image, &plan, index, None)?;
-        }
+        moves_of(rng, &made.table, &image, &[&[j], &tail[..]].concat())?;
     }
     moves_at(rng, &image, &[], 0, None)
+}
+
+/// Every index of a plan's moves, and those beyond.
+fn moves_of(rng: &mut Rng, table: &Table, image: &[u8], plan: &[u8]) -> Outcome {
+    let moves = table.moves(plan);
+    for (i, wanted) in moves.iter().enumerate() {
+        moves_at(rng, image, plan, i as u32, Some(wanted))?;
+    }
+    let count = moves.len() as u32;
+    for index in [count, count + 1, count + 256, count + 65536, u32::MAX, count.max(rng.number() as u32)] {
+        moves_at(rng, image, plan, index, None)?;
+    }
+    Ok(())
+}
+
+/// The tables with repeated rules have every kind of them often.
+fn kinds_of_repeated_rules() -> Outcome {
+    let mut rng = Rng::new(1);
+    let mut often = BTreeMap::new();
+    for _ in 0..100 {
+        for kind in kinds(&nearly_repeated(&mut rng).table.rules) {
+            *often.entry(kind).or_insert(0) += 1;
+        }
+    }
+    for kind in KINDS {
+        ensure!(often.get(kind).is_some_and(|&tables| tables >= 10), "{kind}: in {:?} of 100 tables", often.get(kind));
+    }
+    Ok(())
+}
+
+/// Moves before plans that begin like rows, and that repeated rules change nothing else.
+fn repeated_rules(rng: &mut Rng) -> Outcome {
+    let made = nearly_repeated(rng);
+    let (table, image) = (&made.table, made.table.image());
+    ensure!(table.different_rules() < table.rules.len(), "no rule is repeated");
+    for j in 0..table.jobs as u8 {
+        let tail = if rng.once_in(3) { made.plan(rng, 1000) } else { vec![rng.below(table.jobs) as u8; rng.below(6)] };
+        let plan = [&[j], &tail[..]].concat();
+        moves_of(rng, table, &image, &plan)?;
+        ensure_eq!(plan_norm(&image, &plan), made.norm(&plan) as i32, "norm of {plan:?}");
+    }
+    let mut out = [0; READ_MAX];
+    let used = read_image(&image, &mut out);
+    ensure_eq!(used, table.read().len() as i32, "the bytes that the reader writes");
+    ensure_eq!(out[..used as usize], table.read(), "what the reader writes");
+    Ok(())
 }
 
 fn shortest_runs(rng: &mut Rng) -> Outcome {
