@@ -6,7 +6,7 @@ use mathlib.Core.Logic.{⊎-elim}
 use Prim.Native.Nat.{ℕ, zero, suc, _-_, _≤_, _<_}
 use native.Mathlib.Omega.{arith}
 use lib.Dec.{eqb, ltb}
-use borrow.Author.Tests.{eqb-true, eqb-false, eq-eqb, ne-eqb, lt-ltb, le-ltb, ltb-true, ltb-false}
+use borrow.Author.Tests.{eqb-true, eq-eqb, ne-eqb, lt-ltb, le-ltb, ltb-true, ltb-false}
 use Rattle.bpa.specs.Plans.{Rule, Move, job-moves}
 use Rattle.bpa.proofs.Basics.Cases.{by-test, or-left, or-right, or-cases}
 use Rattle.rules.specs.Places.{rules-in, rule-at, rule-count, table-of}
@@ -14,7 +14,7 @@ use Rattle.rules.proofs.ListLaws.{rules-from, rules-from-start, rules-from-cons
 use Rattle.moves.specs.Shown.{same-move, without, once, move-by}
 use Rattle.moves.specs.Moves.{move-bytes, bytes-by, IsNth}
 use Rattle.moves.proofs.ShownMoves.{one-move, same-self}
-use Rattle.moves.proofs.PassedMoves.{apart-from, was-passed, front-passed, front-new, one-more, passed-last, nothing-apart}
+use Rattle.moves.proofs.PassedMoves.{apart-from, was-passed, front, one-more, passed-last, nothing-apart}
 
 module _ (rs : List ℕ) (j : ℕ) where
   -- the move by the rule at a place
@@ -30,28 +30,17 @@ module _ (rs : List ℕ) (j : ℕ) where
   ahead-of w i = once (job-moves j w (rules-from rs i))
 
   module _ (w : List ℕ) (i : ℕ) where
-    passed-own : rule-at rs i .job ≡ j → passed w (suc i) ≡ passed w i ++ (made w i ∷ [])
+    -- what a rule adds to those passed and takes from those ahead, by whether it is of the job
+    passed-by : (b : Bool) → eqb (rule-at rs i .job) j ≡ b → passed w (suc i) ≡ cond b (passed w i ++ (made w i ∷ [])) (passed w i)
     unfolding passed
-    passed-own e = ap (λ (b : Bool). cond b (passed w i ++ (made w i ∷ [])) (passed w i)) (eq-eqb (rule-at rs i .job) j e)
+    passed-by b e = ap (λ (x : Bool). cond x (passed w i ++ (made w i ∷ [])) (passed w i)) e
 
-    passed-other : (rule-at rs i .job ≡ j → ⊥) → passed w (suc i) ≡ passed w i
-    unfolding passed
-    passed-other d = ap (λ (b : Bool). cond b (passed w i ++ (made w i ∷ [])) (passed w i)) (ne-eqb (rule-at rs i .job) j d)
-
-    module _ (h : i < rule-count rs) where
-      ahead-own : rule-at rs i .job ≡ j → ahead-of w i ≡ made w i ∷ without (made w i) (ahead-of w (suc i))
-      unfolding job-moves once
-      ahead-own e =
-          ap (λ (l : List Rule). once (job-moves j w l)) (rules-from-cons rs i h)
-          ∙ ap (λ (b : Bool). once (cond b (made w i ∷ job-moves j w (rules-from rs (suc i))) (job-moves j w (rules-from rs (suc i)))))
-          (eq-eqb (rule-at rs i .job) j e)
-
-      ahead-other : (rule-at rs i .job ≡ j → ⊥) → ahead-of w i ≡ ahead-of w (suc i)
-      unfolding job-moves
-      ahead-other d =
-          ap (λ (l : List Rule). once (job-moves j w l)) (rules-from-cons rs i h)
-          ∙ ap (λ (b : Bool). once (cond b (made w i ∷ job-moves j w (rules-from rs (suc i))) (job-moves j w (rules-from rs (suc i)))))
-          (ne-eqb (rule-at rs i .job) j d)
+    ahead-by : i < rule-count rs → (b : Bool) → eqb (rule-at rs i .job) j ≡ b →
+        ahead-of w i ≡ once (cond b (made w i ∷ job-moves j w (rules-from rs (suc i))) (job-moves j w (rules-from rs (suc i))))
+    unfolding job-moves
+    ahead-by h b e =
+        ap (λ (l : List Rule). once (job-moves j w l)) (rules-from-cons rs i h)
+        ∙ ap (λ (x : Bool). once (cond x (made w i ∷ job-moves j w (rules-from rs (suc i))) (job-moves j w (rules-from rs (suc i))))) e
 
   -- a move was passed exactly if an earlier rule of the job makes it
   pub was-made : (w : List ℕ) (m : Move) (i e : ℕ) → e < i → rule-at rs e .job ≡ j → made w e ≡ m →
@@ -62,12 +51,12 @@ module _ (rs : List ℕ) (j : ℕ) where
       (λ t.
       let met = was-made w m i e (ltb-true e i t) is same in
       by-test (eqb (rule-at rs i .job) j)
-      (λ o. ap (λ (l : List Move). was-passed l m) (passed-own w i (eqb-true (rule-at rs i .job) j o))
+      (λ o. ap (λ (l : List Move). was-passed l m) (passed-by w i true o)
       ∙ passed-last (passed w i) (made w i) m ∙ or-left (was-passed (passed w i) m) (same-move (made w i) m) met)
-      (λ o. ap (λ (l : List Move). was-passed l m) (passed-other w i (eqb-false (rule-at rs i .job) j o)) ∙ met))
+      (λ o. ap (λ (l : List Move). was-passed l m) (passed-by w i false o) ∙ met))
       (λ f.
       let here : e ≡ i = let l = ltb-false e i f in omega arith in
-      ap (λ (l : List Move). was-passed l m) (passed-own w i (ap (λ (x : ℕ). rule-at rs x .job) (sym here) ∙ is))
+      ap (λ (l : List Move). was-passed l m) (passed-by w i true (eq-eqb (rule-at rs i .job) j (ap (λ (x : ℕ). rule-at rs x .job) (sym here) ∙ is)))
       ∙ passed-last (passed w i) (made w i) m
       ∙ or-right (was-passed (passed w i) m) (same-move (made w i) m)
       (same-self (made w i) m (ap (made w) (sym here) ∙ same)))
@@ -79,12 +68,11 @@ module _ (rs : List ℕ) (j : ℕ) where
   made-by w m (suc i) t =
       by-test (eqb (rule-at rs i .job) j)
       (λ o.
-      let is = eqb-true (rule-at rs i .job) j o in
       ⊎-elim (λ (s : was-passed (passed w i) m ≡ true). earlier (made-by w m i s))
-      (λ (s : same-move (made w i) m ≡ true). (i, omega arith, is, one-move (made w i) m s))
+      (λ (s : same-move (made w i) m ≡ true). (i, omega arith, eqb-true (rule-at rs i .job) j o, one-move (made w i) m s))
       (or-cases (was-passed (passed w i) m) (same-move (made w i) m)
-      (sym (passed-last (passed w i) (made w i) m) ∙ ap (λ (l : List Move). was-passed l m) (sym (passed-own w i is)) ∙ t)))
-      (λ o. earlier (made-by w m i (ap (λ (l : List Move). was-passed l m) (sym (passed-other w i (eqb-false (rule-at rs i .job) j o))) ∙ t)))
+      (sym (passed-last (passed w i) (made w i) m) ∙ ap (λ (l : List Move). was-passed l m) (sym (passed-by w i true o)) ∙ t)))
+      (λ o. earlier (made-by w m i (ap (λ (l : List Move). was-passed l m) (sym (passed-by w i false o)) ∙ t)))
     where
       earlier : ((e : ℕ) × (e < i) × (rule-at rs e .job ≡ j) × (made w e ≡ m)) →
           (e : ℕ) × (e < suc i) × (rule-at rs e .job ≡ j) × (made w e ≡ m)
@@ -104,50 +92,50 @@ module _ (rs : List ℕ) (j : ℕ) where
       pub ahead-past : (rule-at rs i .job ≡ j → ⊥) → Ahead left (suc i)
       unfolding Ahead
       ahead-past d w =
-          ap (λ (l : List Move). move-bytes (apart-from l (ahead-of w (suc i))) left) (passed-other w i d)
-          ∙ ap (λ (l : List Move). move-bytes (apart-from (passed w i) l) left) (sym (ahead-other w i h d)) ∙ a w
+          let e = ne-eqb (rule-at rs i .job) j d in
+          ap (λ (l : List Move). move-bytes (apart-from l (ahead-of w (suc i))) left) (passed-by w i false e)
+          ∙ ap (λ (l : List Move). move-bytes (apart-from (passed w i) l) left) (sym (ahead-by w i h false e)) ∙ a w
 
       module _ (is : rule-at rs i .job ≡ j) where
-        -- what is left of those ahead once the rule is passed
-        rest-ahead : (w : List ℕ) → apart-from (passed w i) (without (made w i) (ahead-of w (suc i))) ≡ apart-from (passed w (suc i)) (ahead-of w (suc i))
-        rest-ahead w =
-            sym (one-more (passed w i) (made w i) (ahead-of w (suc i)))
-            ∙ ap (λ (l : List Move). apart-from l (ahead-of w (suc i))) (sym (passed-own w i is))
+        -- those left once the rule is passed
+        abbrev later : (waiting : List ℕ) → List Move
+        later w = apart-from (passed w (suc i)) (ahead-of w (suc i))
+
+        -- they are what was left before, but for a first one that is new
+        by-first : (w : List ℕ) → apart-from (passed w i) (ahead-of w i) ≡ cond (was-passed (passed w i) (made w i)) (later w) (made w i ∷ later w)
+        unfolding once
+        by-first w =
+            let e = eq-eqb (rule-at rs i .job) j is in
+            let rest : apart-from (passed w i) (without (made w i) (ahead-of w (suc i))) ≡ later w =
+            sym (one-more (passed w i) (made w i) (ahead-of w (suc i))) ∙ ap (λ (l : List Move). apart-from l (ahead-of w (suc i))) (sym (passed-by w i true e)) in
+            ap (apart-from (passed w i)) (ahead-by w i h true e) ∙ front (made w i) (without (made w i) (ahead-of w (suc i))) (passed w i)
+            ∙ ap (λ (l : List Move). cond (was-passed (passed w i) (made w i)) l (made w i ∷ l)) rest
+
+        still-ahead : (w : List ℕ) (b : Bool) → was-passed (passed w i) (made w i) ≡ b →
+            move-bytes (cond b (later w) (made w i ∷ later w)) left ≡ move-bytes (once (job-moves j w (rules-in (rule-count rs) rs))) n
+        unfolding Ahead
+        still-ahead w b e =
+            ap (λ (l : List Move). move-bytes l left) (ap (λ (x : Bool). cond x (later w) (made w i ∷ later w)) (sym e) ∙ sym (by-first w)) ∙ a w
 
         pub ahead-again : ((w : List ℕ) → was-passed (passed w i) (made w i) ≡ true) → Ahead left (suc i)
         unfolding Ahead
-        ahead-again met w =
-            ap (λ (l : List Move). move-bytes l left)
-            (sym (rest-ahead w) ∙ sym (front-passed (made w i) (without (made w i) (ahead-of w (suc i))) (passed w i) (met w))
-            ∙ ap (apart-from (passed w i)) (sym (ahead-own w i h is)))
-            ∙ a w
+        ahead-again met w = still-ahead w true (met w)
 
         module _ (new : (w : List ℕ) → was-passed (passed w i) (made w i) ≡ false) where
-          first-ahead : (w : List ℕ) →
-              move-bytes (made w i ∷ apart-from (passed w (suc i)) (ahead-of w (suc i))) left
-              ≡ move-bytes (once (job-moves j w (rules-in (rule-count rs) rs))) n
-          unfolding Ahead
-          first-ahead w =
-              ap (λ (l : List Move). move-bytes l left)
-              (ap (λ (l : List Move). made w i ∷ l) (sym (rest-ahead w))
-              ∙ sym (front-new (made w i) (without (made w i) (ahead-of w (suc i))) (passed w i) (new w))
-              ∙ ap (apart-from (passed w i)) (sym (ahead-own w i h is)))
-              ∙ a w
-
           pub ahead-later : 0 < left → Ahead (left - 1) (suc i)
           unfolding Ahead move-bytes
           ahead-later l w =
               let s : left ≡ suc (left - 1) = omega arith in
-              subst (λ (x : ℕ). move-bytes (made w i ∷ apart-from (passed w (suc i)) (ahead-of w (suc i))) x
-              ≡ move-bytes (once (job-moves j w (rules-in (rule-count rs) rs))) n) s (first-ahead w)
+              subst (λ (x : ℕ). move-bytes (made w i ∷ later w) x
+              ≡ move-bytes (once (job-moves j w (rules-in (rule-count rs) rs))) n) s (still-ahead w false (new w))
 
           pub found-here : left ≡ 0 → IsNth rs j n i
           unfolding move-bytes bytes-by
           found-here z = record {
             place = omega arith;
             move = λ w.
-                sym (subst (λ (x : ℕ). move-bytes (made w i ∷ apart-from (passed w (suc i)) (ahead-of w (suc i))) x
-                ≡ move-bytes (once (job-moves j w (rules-in (rule-count rs) rs))) n) z (first-ahead w))
+                sym (subst (λ (x : ℕ). move-bytes (made w i ∷ later w) x
+                ≡ move-bytes (once (job-moves j w (rules-in (rule-count rs) rs))) n) z (still-ahead w false (new w)))
                 ∙ ap (λ (b : Bool). cond b (bytes-by rs i w) []) (sym (lt-ltb i (rule-count rs) h));
           }
 

@@ -1,6 +1,6 @@
 -- A list with each combination once, read from the left: what was passed is taken out of what is ahead. Assumes nothing.
-use mathlib.Core.Path.{_≡_, refl, ap, _∙_}
-use mathlib.Core.Bool.{Bool, true, false, cond, _||_}
+use mathlib.Core.Path.{_≡_, refl, sym, ap, _∙_}
+use mathlib.Core.Bool.{Bool, true, false, cond, _||_, or-assoc}
 use mathlib.Core.List.{List, [], _∷_, _++_}
 use Rattle.bpa.specs.Plans.{Move}
 use Rattle.bpa.proofs.Basics.Cases.{by-test}
@@ -15,10 +15,6 @@ unfoldable pub was-passed : (passed : List Move) → Move → Bool
 was-passed [] m = false
 was-passed (s ∷ ss) m = same-move s m || was-passed ss m
 
-or-shifts : (a b c : Bool) → (a || (b || c)) ≡ ((a || b) || c)
-or-shifts true b c = refl
-or-shifts false b c = refl
-
 -- the first entry is dropped exactly if it was passed
 module _ (m : Move) (l : List Move) where
   by-front : (s : Move) (rest : List Move) (b : Bool) →
@@ -27,16 +23,10 @@ module _ (m : Move) (l : List Move) where
   by-front s rest true = by-test (same-move s m) (λ e. rw e) (λ e. rw e)
   by-front s rest false = by-test (same-move s m) (λ e. rw e) (λ e. rw e)
 
-  front : (ss : List Move) → apart-from ss (m ∷ l) ≡ cond (was-passed ss m) (apart-from ss l) (m ∷ apart-from ss l)
+  pub front : (ss : List Move) → apart-from ss (m ∷ l) ≡ cond (was-passed ss m) (apart-from ss l) (m ∷ apart-from ss l)
   unfolding apart-from was-passed
   front [] = refl
   front (s ∷ ss) = ap (without s) (front ss) ∙ by-front s (apart-from ss l) (was-passed ss m)
-
-  pub front-passed : (ss : List Move) → was-passed ss m ≡ true → apart-from ss (m ∷ l) ≡ apart-from ss l
-  front-passed ss h = front ss ∙ ap (λ (b : Bool). cond b (apart-from ss l) (m ∷ apart-from ss l)) h
-
-  pub front-new : (ss : List Move) → was-passed ss m ≡ false → apart-from ss (m ∷ l) ≡ m ∷ apart-from ss l
-  front-new ss h = front ss ∙ ap (λ (b : Bool). cond b (apart-from ss l) (m ∷ apart-from ss l)) h
 
 -- one more is passed
 pub one-more : (ss : List Move) (m : Move) (l : List Move) → apart-from (ss ++ (m ∷ [])) l ≡ apart-from ss (without m l)
@@ -47,7 +37,7 @@ one-more (s ∷ ss) m l = ap (without s) (one-more ss m l)
 pub passed-last : (ss : List Move) (x m : Move) → was-passed (ss ++ (x ∷ [])) m ≡ (was-passed ss m || same-move x m)
 unfolding was-passed
 passed-last [] x m = by-test (same-move x m) (λ e. rw e) (λ e. rw e)
-passed-last (s ∷ ss) x m = ap (λ (b : Bool). same-move s m || b) (passed-last ss x m) ∙ or-shifts (same-move s m) (was-passed ss m) (same-move x m)
+passed-last (s ∷ ss) x m = ap (λ (b : Bool). same-move s m || b) (passed-last ss x m) ∙ sym (or-assoc (same-move s m) (was-passed ss m) (same-move x m))
 
 pub nothing-apart : (ss : List Move) → apart-from ss [] ≡ []
 unfolding apart-from without

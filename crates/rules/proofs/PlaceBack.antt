@@ -12,7 +12,7 @@ use Rattle.bpa.specs.Plans.{all-below}
 use Rattle.bpa.proofs.Basics.Cases.{and-left, and-right}
 use Rattle.rules.specs.Places.{all-zero, move-in, rule-in, rule-at, rule-count, place-good, place-of}
 use Rattle.rules.specs.Lists.{GoodList}
-use Rattle.rules.proofs.PlaceLaws.{room, byte-at}
+use Rattle.rules.proofs.PlaceLaws.{place-length, byte-at}
 use Rattle.rules.proofs.ListLaws.{good-place}
 use Rattle.rules.proofs.Zeros.{zeros-are}
 
@@ -74,7 +74,7 @@ module _ (n : ℕ) (rs : List ℕ) (good : GoodList n rs) where
   at-place : (i : ℕ) → i < rule-count rs → getD rs (8 * i + 1) 0 < 256 → place-of (rule-at rs i) ≡ take 8 (drop (8 * i) rs)
   unfolding rule-at
   at-place i h low =
-      place-back n (take 8 (drop (8 * i) rs)) (length-take-le 8 (drop (8 * i) rs) (omega (arith, length-drop (8 * i) rs, room rs i h)))
+      place-back n (take 8 (drop (8 * i) rs)) (place-length rs i h)
       (omega (arith, byte-at rs i 1 (omega arith))) (good-place (rule-count rs) n rs i (good .places) h)
 
   pub same-bytes : (i k : ℕ) → i < rule-count rs → k < rule-count rs → getD rs (8 * i + 1) 0 < 256 → getD rs (8 * k + 1) 0 < 256 →

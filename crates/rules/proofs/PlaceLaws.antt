@@ -12,6 +12,9 @@ pub room : (rs : List ℕ) (i : ℕ) → i < rule-count rs → 8 * i + 8 ≤ len
 unfolding rule-count
 room rs i h = omega arith
 
+pub place-length : (rs : List ℕ) (i : ℕ) → i < rule-count rs → length (take 8 (drop (8 * i) rs)) ≡ 8
+place-length rs i h = length-take-le 8 (drop (8 * i) rs) (omega (arith, length-drop (8 * i) rs, room rs i h))
+
 pub byte-at : (rs : List ℕ) (i k : ℕ) → k < 8 → getD (take 8 (drop (8 * i) rs)) k 0 ≡ getD rs (8 * i + k) 0
 byte-at rs i k h = getD-take 8 (drop (8 * i) rs) k 0 h ∙ getD-drop (8 * i) rs k 0
 

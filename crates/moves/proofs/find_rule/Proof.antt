@@ -6,8 +6,8 @@ use native.Mathlib.Omega.{arith}
 use lib.ListN.{length, getD}
 use borrow.Author.Needs.{needs}
 use Rattle.rules.specs.Places.{rule-at, rule-count}
+use Rattle.rules.proofs.PlaceLaws.{place-length}
 use Rattle.repeated.specs.Repeated.{place-at, bucket-of, Stands}
-use Rattle.repeated.proofs.EqualPlaces.{place-length}
 use Rattle.moves.proofs.NthRule.{found-none}
 use Rattle.moves.proofs.PassOverRules.{Passing, passing-start, passing-other, passing-again, passing-new, passing-ends}
 use Rattle.moves.proofs.find_rule.Statement.{statement}

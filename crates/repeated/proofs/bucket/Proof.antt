@@ -1,13 +1,11 @@
 -- `repeated::bucket` meets its contract: each of its eight numbers is a byte of the place. Assumes nothing.
-use Prim.Native.Nat.{ℕ, _+_, _*_, _%_, _<_}
+use Prim.Native.Nat.{_+_, _*_, _%_}
+use native.Mathlib.Nat.{mod-lt}
 use native.Mathlib.Omega.{arith}
 use borrow.Author.Needs.{needs}
 use Rattle.repeated.specs.Repeated.{bucket-of}
 use Rattle.repeated.proofs.bucket.Statement.{statement}
 use Rattle.repeated.proofs.bucket.Tie as tie
-
-rest-small : (n : ℕ) → n % 64 < 64
-rest-small n = omega arith
 
 returns : tie.Need-returns
 unfolding bucket-of
@@ -25,7 +23,7 @@ returns c =
           ((w1 .wide .ensures .is i + 5 * (w2 .wide2 .ensures .is i + w3 .wide3 .ensures .is i) + 7 * w4 .wide4 .ensures .is i)
           + (11 * w5 .wide5 .ensures .is i + 23 * w6 .wide6 .ensures .is i)
           + (37 * w7 .wide7 .ensures .is i + 47 * w8 .wide8 .ensures .is i)) % 64;
-      small = rest-small _;
+      small = mod-lt _ (omega arith);
     }
 
 pub bucket-spec : {M : Type 1} → statement M

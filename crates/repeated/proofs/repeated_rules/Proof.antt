@@ -5,8 +5,8 @@ use native.Mathlib.Omega.{arith}
 use lib.ListN.{length}
 use borrow.Author.Needs.{needs}
 use Rattle.rules.specs.Places.{rule-count}
+use Rattle.rules.proofs.PlaceLaws.{place-length}
 use Rattle.repeated.specs.Repeated.{RepeatsMarked}
-use Rattle.repeated.proofs.EqualPlaces.{place-length}
 use Rattle.repeated.proofs.MarkedRules.{none-marked, one-marked}
 use Rattle.repeated.proofs.repeated_rules.Statement.{statement}
 use Rattle.repeated.proofs.repeated_rules.Tie as tie
