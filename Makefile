@@ -3,7 +3,7 @@
 # make test       every proof, then the tests over the archive; the last line is 'N passed, M failed'
 # make bench      times beside ordinary Rust programs; make callgrind: instructions a call
 # make soak       random tests for SECONDS= from a printed seed, or from SEED=
-# make ages       answers of an older archive, OLD=, of version AGE= (1 or 2), beside this one's on images from before version 2.0.0
+# make ages       answers of an older archive, OLD=, of age AGE= (1 to 3), beside this one's on images from before version 2.0.0
 # make install    into PREFIX=, below DESTDIR=
 # make clean
 
@@ -11,7 +11,7 @@ PREFIX ?= /usr/local
 DESTDIR ?=
 SECONDS ?= 300
 AGE ?= 1
-VERSION = 3.0.0
+VERSION = 3.1.0
 
 ARCHIVE ?= target/staticlib/libgindrazoma.a
 PLANLOOK ?= target/bin/planlook
@@ -108,7 +108,7 @@ bench: $(ARCHIVE)
 	@build/cargo/timing/bench
 
 # the norm alone: make callgrind COUNTED=norm-calls
-COUNTED = norm-calls move-calls compare-calls
+COUNTED = norm-calls move-calls run-calls short-run-calls compare-calls
 
 callgrind: $(ARCHIVE)
 	@$(CARGO) build -q --profile timing -p bench $(addprefix --bin ,$(COUNTED))
@@ -124,7 +124,7 @@ ages: old-archive $(ARCHIVE)
 	@AGE=$(AGE) tests/ages.sh $(OLD) $(ARCHIVE)
 
 old-archive:
-	@test -f "$(OLD)" || { echo "make ages OLD=FILE: FILE is a libgindrazoma.a from before version 2.0.0, or with AGE=2 from before 3.0.0; there is no '$(OLD)'" >&2; exit 1; }
+	@test -f "$(OLD)" || { echo "make ages OLD=FILE: FILE is a libgindrazoma.a from before version 2.0.0, with AGE=2 from before 3.0.0, with AGE=3 from before 3.1.0; there is no '$(OLD)'" >&2; exit 1; }
 
 # ---- examples, and planlook on them
 

@@ -13,8 +13,7 @@
  *  - makes its checks in the order of the refusals' numbers, each one over all blocks of the image, or
  *    over the left and then the right plan, before the next. The first that fails is the answer.
  *  - keeps nothing: no memory is allocated and no variable outlives the call. The same input gives the same
- *    answer and the same bytes; only which of a plan's shortest runs is written is not promised.
- *    Any number of threads may call at once, each on areas of its own.
+ *    answer and the same bytes. Any number of threads may call at once, each on areas of its own.
  *
  * AREAS
  *  - An area is a pointer to as many bytes as its length says. Areas of any length are accepted.
@@ -36,9 +35,9 @@
 
 /* The version of this header, and of the archive that it belongs to. */
 #define GINDRAZOMA_VERSION_MAJOR 3
-#define GINDRAZOMA_VERSION_MINOR 0
+#define GINDRAZOMA_VERSION_MINOR 1
 #define GINDRAZOMA_VERSION_PATCH 0
-#define GINDRAZOMA_VERSION "3.0.0"
+#define GINDRAZOMA_VERSION "3.1.0"
 
 #ifdef __cplusplus
 extern "C" {
@@ -104,8 +103,11 @@ int32_t gindrazoma_write_image(uint32_t jobs, const uint8_t *rules, size_t rules
 int32_t gindrazoma_plan_norm(const uint8_t *image, size_t image_len, const uint8_t *plan, size_t plan_len);
 
 /*
- * A shortest run of a plan: writes moves, two bytes each with the low byte first, that lead from the plan
- * to the empty plan and are as many as its norm. Which of the shortest runs is not promised.
+ * The first shortest run of a plan: writes moves, two bytes each with the low byte first, that lead from the
+ * plan to the empty plan and are as many as its norm. Of all such runs it is the first in dictionary order of
+ * move numbers: where another one first differs from it, the other has the larger move. Moves are compared as
+ * the table has them, numbers of 16 bits, not as bytes. The order of the rules does not matter, nor how often
+ * one is written.
  *
  * Answer: the bytes written, which is twice the norm, 0 to 8,192.
  * Refusals: 2, 3, 4, 5, 6, 7, 8, 9, 10.

@@ -1,6 +1,7 @@
 #!/bin/sh
-# ages.sh OLD NEW: an archive whose version begins with AGE, 1 or 2, and one of now answer alike about COUNT images from before version
-# 2.0.0, from SEED, once repeated moves of the old one are left out; and one of age 1 refuses larger moves by 5.
+# ages.sh OLD NEW: an archive of AGE 1, 2 or 3, from before version 2.0.0, 3.0.0 or 3.1.0, and one of now answer alike about COUNT
+# images from before version 2.0.0, from SEED, once repeated moves of the old one are left out and any shortest run of it passes for
+# the first; and one of age 1 refuses larger moves by 5.
 set -u
 work=$(mktemp -d) || exit 1
 trap 'rm -rf "$work"' EXIT
@@ -12,7 +13,7 @@ answers() {
         build/cargo/release/ages "$3" "${SEED:-1}" "${COUNT:-2000}" >"$work/$1.txt"
 }
 
-if ! answers old "$1" "${AGE:-1}" || ! answers new "$2" 3; then
+if ! answers old "$1" "${AGE:-1}" || ! answers new "$2" 4; then
     echo "FAILED the answers of $1 and $2 could not be had"
     exit 1
 fi

@@ -1,5 +1,6 @@
 //! The calls to time, and a program of calls and nothing else, for a tool that counts instructions.
-use crate::inputs::{single_table, Pair, SINGLE_TABLES};
+use crate::inputs::{single_table, Input, Pair, SINGLE_TABLES};
+use crate::pairs::PLAN_NORM;
 use outside::table::put_plan;
 use std::io::{stdin, stdout, Read, Write};
 use std::process::ExitCode;
@@ -30,16 +31,36 @@ pub const MOVE: [Program; 2] = [
     ("plain", |image, (left, _), out| plain::nth_move(image, left, u32::MAX, out)),
 ];
 
+/// The first shortest run of the left plan: the library, the plain program as it is written at first, and with every choice of speed.
+pub const RUN: [Program; 3] = [
+    ("library", |image, (left, _), out| gindrazoma::raw::shortest_run(image, left, out)),
+    ("first", |image, (left, _), out| plain::shortest_run_at_first(image, left, out)),
+    ("fast", |image, (left, _), out| plain::shortest_run(image, left, out)),
+];
+
+/// What all three answer and write.
+pub fn runs(image: &[u8], pair: &Pair) -> [(i32, Vec<u8>); 3] {
+    RUN.map(|(_, call)| {
+        let mut out = vec![0; 2 * PLAN_NORM + 2];
+        (call(image, pair, &mut out), out)
+    })
+}
+
 /// Every kind of pair is among so many.
 const PAIRS: usize = 12;
 
 /// Without words: a line for each table, and one with the number of pairs and the programs. With a table's number: its image and
 /// pairs as planlook reads them. With a program and how often: its call so often on each of the pairs of such an input.
 pub fn run(programs: &[Program]) -> ExitCode {
+    run_on(programs, |_| ())
+}
+
+/// The same with pairs that are changed before they are written.
+pub fn run_on(programs: &[Program], change: fn(&mut Input)) -> ExitCode {
     let words: Vec<String> = std::env::args().skip(1).collect();
     let done = match &words[..] {
         [] => list(programs),
-        [table] => write_input(table),
+        [table] => write_input(table, change),
         [name, times] => make_calls(programs, name, times),
         _ => None,
     };
@@ -55,8 +76,9 @@ fn list(programs: &[Program]) -> Option<()> {
     Some(())
 }
 
-fn write_input(table: &str) -> Option<()> {
-    let input = single_table(1, table.parse().ok().filter(|&i| i < SINGLE_TABLES.len())?, PAIRS);
+fn write_input(table: &str, change: fn(&mut Input)) -> Option<()> {
+    let mut input = single_table(1, table.parse().ok().filter(|&i| i < SINGLE_TABLES.len())?, PAIRS);
+    change(&mut input);
     let mut bytes = input.image;
     for plan in input.pairs.iter().flat_map(|(left, right)| [left, right]) {
         put_plan(&mut bytes, plan);

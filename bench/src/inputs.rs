@@ -1,6 +1,6 @@
 //! Tables and pairs of plans to time.
-use crate::hostile;
 use crate::pairs::{Pairs, PLAN_NORM};
+use crate::{hostile, hostile_runs};
 use outside::rng::Rng;
 use outside::second::Second;
 use outside::shapes::Made;
@@ -94,6 +94,17 @@ pub fn hostile(rng: &mut Rng) -> Vec<Input> {
     for (name, made) in tables {
         let pairs = some_pairs(rng, &made, 6);
         inputs.push(input(name, &made, pairs));
+    }
+    inputs
+}
+
+/// Tables that make the first shortest run work: for each plan an input, with the plan on the left.
+pub fn hostile_runs() -> Vec<Input> {
+    let mut inputs = Vec::new();
+    for (name, made) in hostile_runs::tables() {
+        for (kind, plan) in hostile_runs::plans(&made, PLAN_NORM) {
+            inputs.push(input(&format!("{name}, {kind}"), &made, vec![(plan, Vec::new())]));
+        }
     }
     inputs
 }

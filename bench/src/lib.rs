@@ -1,5 +1,6 @@
 //! Tables and plans to time, and the programs that only make calls.
 pub mod calls;
 mod hostile;
+mod hostile_runs;
 pub mod inputs;
 pub mod pairs;

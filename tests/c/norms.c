@@ -114,8 +114,9 @@ static int leads_to_end(const struct table *t, const uint8_t *plan, size_t len, 
     return done;
 }
 
-/* A shortest run on output areas beyond, at and below its length; the run is replayed. */
-static void run_of(const struct table *t, const uint8_t *plan, size_t len, size_t norm)
+/* A shortest run on output areas beyond, at and below its length; it is replayed if the table is given, and compared if its bytes
+   are. */
+static void run_of(const struct table *t, const uint8_t *plan, size_t len, size_t norm, const uint8_t *wanted)
 {
     struct area in = area_copy(image, image_len), p = area_copy(plan, len);
     for (size_t beyond = 0; beyond < 3; beyond++) {
@@ -124,6 +125,8 @@ static void run_of(const struct table *t, const uint8_t *plan, size_t len, size_
         CHECK(area_kept(&out, 2 * norm));
         if (t != NULL)
             CHECK(leads_to_end(t, plan, len, out.bytes, norm));
+        if (wanted != NULL)
+            CHECK(memcmp(out.bytes, wanted, 2 * norm) == 0);
         area_free(&out);
     }
     const size_t below[] = { 1, 2, norm, 2 * norm };
@@ -136,6 +139,12 @@ static void run_of(const struct table *t, const uint8_t *plan, size_t len, size_
     CHECK(area_same(&in) && area_same(&p));
     area_free(&in);
     area_free(&p);
+}
+
+/* The first shortest run of a plan has these moves, two bytes each. */
+static void run_is(const uint8_t *plan, size_t len, const uint8_t *wanted, size_t bytes)
+{
+    run_of(NULL, plan, len, bytes / 2, wanted);
 }
 
 static void norms_of_table_t(void)
@@ -609,7 +618,7 @@ static void repeated_rules_change_nothing_else(void)
     const int32_t norms[] = { 1, 3, 7, 15, 31 };
     for (int j = 0; j < 5; j++)
         CHECK_EQ(norm_of_job(j), norms[j]);
-    run_of(&t, (const uint8_t *)"\3\0\2", 3, 23);
+    run_of(&t, (const uint8_t *)"\3\0\2", 3, 23, NULL);
     uint8_t out[GINDRAZOMA_READ_MAX];
     CHECK_EQ(gindrazoma_read_image(image, image_len, out, sizeof out), 2017);
     CHECK_EQ(out[0], 5);
@@ -630,7 +639,7 @@ static void shortest_runs(void)
             int32_t norm = gindrazoma_plan_norm(image, image_len, plan, len);
             CHECK(norm >= (int32_t)len);
             if (norm >= 0)
-                run_of(t, plan, len, (size_t)norm);
+                run_of(t, plan, len, (size_t)norm, NULL);
         }
     }
 }
@@ -666,8 +675,8 @@ static void long_runs(void)
     rule1(&t, 9, 'b' + 256, 8);
     use(&t);
     uint8_t *plan = repeated(9, 8), *ones = repeated(0, 4096);
-    run_of(NULL, plan, 8, 4096);
-    run_of(NULL, ones, 4096, 4096);
+    run_of(NULL, plan, 8, 4096, NULL);
+    run_of(NULL, ones, 4096, 4096, NULL);
     uint8_t out[GINDRAZOMA_RUN_MAX];
     CHECK_EQ(gindrazoma_shortest_run(image, image_len, plan, 8, out, sizeof out), 8192);
     for (int i = 0; i < 4096; i++)
@@ -675,6 +684,281 @@ static void long_runs(void)
     CHECK_EQ(gindrazoma_shortest_run(image, image_len, ones, 4096, out, sizeof out), 8192);
     free(plan);
     free(ones);
+}
+
+/* Letters, jobs of norm 1: job 0 is 'a' and so on. */
+static struct table table_letters(uint32_t jobs, int letters)
+{
+    struct table t = table_new(jobs);
+    for (int j = 0; j < letters; j++)
+        rule0(&t, j, 'a' + j);
+    return t;
+}
+
+/* Rules with one move, told apart by the second, third or fourth move; the run that comes first is by the rule in the middle. */
+static void ties_settled_later(void)
+{
+    static const uint8_t two[] = { 4 }, two_run[] = { 'm', 0, 'b', 0 };
+    static const uint8_t three[] = { 5, 3 }, three_run[] = { 'm', 0, 'b', 0, 'c', 0, 'd', 0 };
+    static const uint8_t four[] = { 3, 6, 4 }, four_run[] = { 'd', 0, 'm', 0, 'b', 0, 'b', 0, 'a', 0, 'm', 0, 'b', 0 };
+    struct table t = table_letters(7, 4);
+    rule1(&t, 4, 'm', 2);
+    rule1(&t, 4, 'm', 1);
+    rule1(&t, 4, 'm', 3);
+    rule1(&t, 4, 'n', 0);
+    rule2(&t, 5, 'm', 1, 3);
+    rule2(&t, 5, 'm', 2, 0);
+    rule2(&t, 5, 'm', 1, 2);
+    rule2(&t, 5, 'm', 3, 0);
+    rule2(&t, 5, 'n', 0, 0);
+    add_rule(&t, 6, 'm', 3, 1, 2, 0, 0);
+    add_rule(&t, 6, 'm', 3, 1, 1, 3, 0);
+    add_rule(&t, 6, 'm', 3, 1, 1, 0, 0);
+    add_rule(&t, 6, 'm', 3, 1, 3, 0, 0);
+    add_rule(&t, 6, 'm', 3, 2, 0, 0, 0);
+    use(&t);
+    run_is(two, 1, two_run, sizeof two_run);
+    run_is(three, 2, three_run, sizeof three_run);
+    run_is(four, 3, four_run, sizeof four_run);
+}
+
+/* Rows whose jobs end at different places: the runs differ inside of a job on both sides. */
+static void ties_across_the_ends_of_jobs(void)
+{
+    static const uint8_t plan[] = { 4, 5 };
+    static const uint8_t run[] = { 'm', 0, 'a', 0, 'b', 0, 'a', 0, 'a', 0, 'b', 0, 'n', 0, 'a', 0, 'b', 0, 'a', 0, 'a', 0 };
+    struct table t = table_letters(6, 2);
+    rule1(&t, 2, 'a', 1);          /* ab */
+    rule2(&t, 3, 'a', 1, 0);       /* aba */
+    rule2(&t, 4, 'm', 2, 3);       /* m ab aba */
+    rule2(&t, 4, 'm', 3, 2);       /* m aba ab */
+    add_rule(&t, 4, 'm', 4, 2, 0, 1, 1);
+    add_rule(&t, 5, 'n', 4, 0, 1, 1, 0);
+    rule2(&t, 5, 'n', 2, 2);       /* n ab ab */
+    rule2(&t, 5, 'n', 3, 0);       /* n aba a */
+    add_rule(&t, 5, 'n', 3, 0, 1, 2, 0);
+    use(&t);
+    run_is(plan, 2, run, sizeof run);
+}
+
+/* Two chains of jobs with equal moves down to their last jobs; then behind other jobs of the rows, too. */
+static void ties_settled_in_nested_jobs(void)
+{
+    static const uint8_t plan[] = { 8 }, run[] = { 's', 0, 'r', 0, 'q', 0, 'p', 0, 'a', 0 };
+    static const uint8_t both[] = { 9 }, both_run[] = { 'm', 0, 'q', 0, 'p', 0, 'a', 0, 'q', 0, 'p', 0, 'a', 0, 'a', 0 };
+    struct table t = table_letters(10, 2);
+    rule1(&t, 2, 'p', 1);
+    rule1(&t, 3, 'p', 0);
+    rule1(&t, 4, 'q', 2);
+    rule1(&t, 5, 'q', 3);
+    rule1(&t, 6, 'r', 4);
+    rule1(&t, 7, 'r', 5);
+    rule1(&t, 8, 's', 6);
+    rule1(&t, 8, 's', 7);
+    add_rule(&t, 9, 'm', 3, 4, 5, 0, 0);
+    add_rule(&t, 9, 'm', 3, 5, 4, 0, 0);
+    add_rule(&t, 9, 'm', 3, 5, 5, 1, 0);
+    add_rule(&t, 9, 'm', 3, 5, 5, 0, 0);
+    add_rule(&t, 9, 'm', 3, 5, 4, 1, 0);
+    use(&t);
+    run_is(plan, 1, run, sizeof run);
+    run_is(both, 1, both_run, sizeof both_run);
+}
+
+/* Job 11 of norm 512 by four rules, of which each makes 511 times 'a'. The last moves are z, y, w and x; w is seven jobs deep. */
+static struct table table_last_of_512(void)
+{
+    struct table t = table_doubling(8); /* job 7 has norm 255 */
+    t.jobs = 21;
+    for (int k = 0; k < 3; k++)
+        rule0(&t, 8 + k, 'z' - k);
+    add_rule(&t, 11, 'a', 3, 7, 7, 8, 0);
+    add_rule(&t, 11, 'a', 3, 7, 7, 9, 0);
+    rule2(&t, 11, 'a', 12, 13);
+    add_rule(&t, 11, 'a', 3, 7, 7, 10, 0);
+    rule1(&t, 12, 'a', 7); /* 256 */
+    for (int k = 0; k < 7; k++)
+        rule2(&t, 13 + k, 'a', 6 - k, 14 + k); /* 255 and 127 to 3 */
+    rule0(&t, 20, 'w');
+    return t;
+}
+
+/* The bytes of runs of job 11. */
+static void fill_runs_of_512(uint8_t *run, int jobs)
+{
+    for (int i = 0; i < 512 * jobs; i++) {
+        run[2 * i] = i % 512 == 511 ? 'w' : 'a';
+        run[2 * i + 1] = 0;
+    }
+}
+
+static void tie_settled_in_the_last_move_of_512(void)
+{
+    static const uint8_t plan[] = { 11, 11, 11, 11, 11, 11, 11, 11 };
+    static uint8_t run[8192];
+    struct table t = table_last_of_512();
+    use(&t);
+    fill_runs_of_512(run, 8);
+    run_is(plan, 1, run, 1024);
+    run_is(plan, 8, run, 8192);
+}
+
+/* The least move is that of a rule that does not lower the norm; or such a rule has an equal move and jobs with lesser ones. */
+static void lesser_moves_that_do_not_lower(void)
+{
+    static const uint8_t plan[] = { 2, 3, 1, 4 }, run[] = { 'k', 0, 'b', 0, 'l', 0, 'b', 0, 'b', 0, 'b', 0, 'n', 0, 'k', 0, 'b', 0 };
+    struct table t = table_letters(5, 2);
+    rule1(&t, 1, 'a', 1);
+    rule1(&t, 1, 0, 0);
+    rule2(&t, 2, 'a', 0, 0);
+    rule1(&t, 2, 'k', 1);
+    rule1(&t, 2, 'a', 2);
+    rule2(&t, 2, 'k', 0, 0);
+    add_rule(&t, 3, 0, 4, 3, 2, 1, 0);
+    add_rule(&t, 3, 'l', 4, 0, 0, 0, 0);
+    rule2(&t, 3, 'l', 1, 1);
+    rule2(&t, 3, 'l', 0, 2);
+    rule1(&t, 4, 'a', 3);
+    rule1(&t, 4, 'n', 2);
+    rule1(&t, 4, 'm', 4);
+    use(&t);
+    run_is(plan, 4, run, sizeof run);
+}
+
+/* Of two moves the lesser number, whatever their bytes are, as a first move and as a later one; with the rules in either order. */
+static void numbers_and_not_bytes(void)
+{
+    static const int moves[][2] = {
+        { 0x00ff, 0x0100 }, { 0x0001, 0x0100 }, { 0x0101, 0x0200 }, { 0x7fff, 0x8000 }, { 0x0000, 0xffff }, { 0x12ff, 0x1300 },
+        { 0x0061, 0x0161 }, { 0xfe61, 0xff61 }, { 0x0000, 0x0001 }, { 0x0000, 0x0100 }, { 0xff00, 0xff01 }, { 0xfeff, 0xff00 },
+    };
+    static const uint8_t plan[] = { 0, 3, 0 };
+    for (size_t i = 0; i < 2 * (sizeof moves / sizeof moves[0]); i++) {
+        const int first = moves[i / 2][0], low = first % 256, high = first / 256;
+        const uint8_t run[] = { (uint8_t)low, (uint8_t)high, 'm', 1, 'a', 0, (uint8_t)low, (uint8_t)high, (uint8_t)low, (uint8_t)high };
+        struct table t = table_new(5);
+        for (int k = 0; k < 2; k++) {
+            const int job = (i % 2 == 0) == (k == 0);
+            rule0(&t, 0, moves[i / 2][job]);
+            rule0(&t, 1 + job, moves[i / 2][job]);
+            rule2(&t, 3, 'm' + 256, 4, 1 + job);
+        }
+        rule0(&t, 4, 'a');
+        use(&t);
+        run_is(plan, 3, run, sizeof run);
+    }
+}
+
+/* A table with its rules in random order, and some of them more than once. */
+static struct table shuffled(const struct table *t, size_t rules)
+{
+    struct table other = *t;
+    while (other.rules < rules)
+        memcpy(other.bytes + 8 * other.rules++, t->bytes + 8 * random_below((uint32_t)t->rules), 8);
+    for (size_t i = other.rules - 1; i > 0; i--) {
+        uint8_t place[8], *a = other.bytes + 8 * i, *b = other.bytes + 8 * random_below((uint32_t)i + 1);
+        memcpy(place, a, 8);
+        memcpy(a, b, 8);
+        memcpy(b, place, 8);
+    }
+    return other;
+}
+
+static void rules_in_another_order(void)
+{
+    static const uint8_t plan[] = { 4, 5 }, long_plan[] = { 11 };
+    static const uint8_t run[] = { 'm', 0, 'b', 0, 'b', 0, 'c', 0, 'm', 0, 'b', 0, 'm', 0, 'b', 0, 'b', 0, 'c', 0, 'b', 0 };
+    static uint8_t long_run[1024];
+    const struct table last = table_last_of_512();
+    struct table t = table_letters(6, 4);
+    for (int k = 1; k < 27; k++) /* the rows of three letters b to d, but for bbb */
+        add_rule(&t, 4, 'm', 3, 1 + k / 9, 1 + k / 3 % 3, 1 + k % 3, 0);
+    for (int k = 1; k < 4; k++)
+        add_rule(&t, 5, 'm', 3, k, 4, k, 0);
+    rule1(&t, 5, 'a', 5);
+    fill_runs_of_512(long_run, 1);
+    for (int n = 0; n < (small_run() ? 2 : 100); n++) {
+        const struct table other = shuffled(&t, n % 2 == 0 ? 0 : 252), other_last = shuffled(&last, n % 2 == 0 ? 252 : 0);
+        use(&other);
+        run_is(plan, 2, run, sizeof run);
+        use(&other_last);
+        run_is(long_plan, 1, long_run, sizeof long_run);
+    }
+}
+
+/* Equal runs by a rule that is written twice, by rows in another order, and by rows of other jobs with equal runs; before and behind
+   the rules whose run comes first, which are two as well. */
+static void equal_runs_by_different_rules(void)
+{
+    static const uint8_t plan[] = { 5, 4 }, run[] = { 'm', 0, 'a', 0, 'a', 0, 'a', 0, 'a', 0, 'b', 0, 'a', 0, 'a', 0, 'a', 0 };
+    struct table t = table_letters(6, 3);
+    rule2(&t, 3, 'a', 0, 0); /* aaa, and so is job 4 */
+    for (int again = 0; again < 2; again++) {
+        rule2(&t, 4, 'a', 0, 0);
+        add_rule(&t, 5, 'm', 3, 0, 3, 2, 0);
+        add_rule(&t, 5, 'm', 3, 4, 0, 2, 0);
+        add_rule(&t, 5, 'm', 3, 3, 0, 1, 0);
+        add_rule(&t, 5, 'm', 3, 0, 4, 1, 0);
+        add_rule(&t, 5, 'm', 3, 3, 0, 2, 0);
+        add_rule(&t, 5, 'm', 3, 3, 1, 0, 0);
+    }
+    use(&t);
+    run_is(plan, 2, run, sizeof run);
+
+    static const uint8_t all_equal[] = { 'a', 0, 'a', 0, 'a', 0, 'a', 0, 'a', 0, 'a', 0, 'a', 0, 'a', 0 };
+    static const uint8_t eight[] = { 3 };
+    t = table_doubling(3); /* norms 1, 3, 7 */
+    t.jobs = 4;
+    rule1(&t, 3, 'a', 2);
+    rule2(&t, 3, 'b', 2, 0);
+    add_rule(&t, 3, 'a', 3, 1, 1, 0, 0);
+    add_rule(&t, 3, 'a', 3, 0, 1, 1, 0);
+    add_rule(&t, 3, 'a', 3, 1, 0, 1, 0);
+    use(&t);
+    run_is(eight, 1, all_equal, sizeof all_equal);
+}
+
+/* One job with 252 rules, the first run at each place of them: by the first move alone; and by two more moves of 225 rows. */
+static void first_run_at_any_place(void)
+{
+    static const uint8_t plan[] = { 0 };
+    for (int at = 0; at < 252; at += small_run() ? 63 : 1) {
+        struct table t = table_new(1);
+        for (int i = 0; i < 252; i++)
+            rule0(&t, 0, 300 + 250 * ((i + 252 - at) % 252));
+        use(&t);
+        run_is(plan, 1, (const uint8_t[]){ 300 % 256, 300 / 256 }, 2);
+    }
+    for (int at = 0; at < 225; at += small_run() ? 56 : 1) {
+        struct table t = table_new(16);
+        for (int j = 1; j < 16; j++)
+            rule0(&t, j, 255 * j);
+        for (int i = 0; i < 225; i++) {
+            const int row = (i + 225 - at) % 225;
+            rule2(&t, 0, 65535, 1 + row / 15, 1 + row % 15);
+        }
+        use(&t);
+        run_is(plan, 1, (const uint8_t[]){ 255, 255, 255, 0, 255, 0 }, 6);
+    }
+}
+
+/* 4,096 jobs of norm 1 with three moves each; and 3,584 of them behind one of norm 512. */
+static void first_runs_of_4096_moves(void)
+{
+    static uint8_t run[8192];
+    struct table t = table_last_of_512();
+    rule0(&t, 8, 'a' + 256);
+    rule0(&t, 8, 'b');
+    use(&t);
+    uint8_t *plan = repeated(8, 4096);
+    for (int i = 0; i < 8192; i++)
+        run[i] = i % 2 == 0 ? 'b' : 0;
+    run_is(plan, 4096, run, sizeof run);
+    for (int i = 0; i < 512; i++)
+        run[2 * i] = i == 511 ? 'b' : 'a';
+    plan[0] = 11;
+    run_is(plan, 3585, run, sizeof run);
+    free(plan);
 }
 
 static void null_with_length_0(void)
@@ -737,6 +1021,16 @@ static const struct check_case cases[] = {
     { "shortest runs, replayed", shortest_runs },
     { "plans with one shortest run", only_runs },
     { "runs of 4,096 moves", long_runs },
+    { "ties settled by a later move", ties_settled_later },
+    { "ties across the ends of jobs", ties_across_the_ends_of_jobs },
+    { "ties settled in nested jobs", ties_settled_in_nested_jobs },
+    { "a tie settled in the last move of 512", tie_settled_in_the_last_move_of_512 },
+    { "lesser moves that do not lower the norm", lesser_moves_that_do_not_lower },
+    { "moves in order of numbers, not of bytes", numbers_and_not_bytes },
+    { "rules in another order", rules_in_another_order },
+    { "equal runs by different rules", equal_runs_by_different_rules },
+    { "the first run at any place of 252 rules", first_run_at_any_place },
+    { "first runs of 4,096 moves", first_runs_of_4096_moves },
     { "NULL with length 0", null_with_length_0 },
     { "refused images", refused_images },
 };

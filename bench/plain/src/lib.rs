@@ -1,11 +1,14 @@
 //! The calls of gindrazoma as an ordinary Rust program: the baseline of the benchmark. Compare and prime form are there
 //! three times: by document 01's method as one writes it at first (`first`) and with every choice of speed (`base`), and
-//! by the library's method (`rows`). Answers, refusals and areas are those of include/gindrazoma.h.
+//! by the library's method (`rows`); the shortest run twice, as it is written at first and with every choice of speed. Answers, refusals and areas are those of include/gindrazoma.h.
 #![no_std]
 #![forbid(unsafe_code)]
 
+extern crate alloc;
+
 pub mod base;
 pub mod first;
+mod first_runs;
 mod held_pairs;
 mod image;
 mod index;
@@ -13,6 +16,7 @@ mod judge;
 mod norms;
 mod region;
 pub mod rows;
+mod runs;
 mod steps;
 mod table;
 
@@ -20,7 +24,7 @@ pub use steps::{Meter, Steps};
 
 use image::{fill_block, layout_of_list, load};
 use index::first_written;
-use norms::{job_norms, plan_norms, shortest, table_refusal};
+use norms::{job_norms, plan_norms, table_refusal};
 use region::Rows;
 use table::{Table, JOBS, RULE};
 
@@ -60,7 +64,17 @@ pub fn plan_norm(image: &[u8], plan: &[u8]) -> i32 {
     })
 }
 
+/// The first shortest run, with every choice of speed.
 pub fn shortest_run(image: &[u8], plan: &[u8], out: &mut [u8]) -> i32 {
+    run_of(runs::shortest, image, plan, out)
+}
+
+/// The same as it is written at first.
+pub fn shortest_run_at_first(image: &[u8], plan: &[u8], out: &mut [u8]) -> i32 {
+    run_of(first_runs::shortest, image, plan, out)
+}
+
+fn run_of(shortest: fn(&Table, &[u16; JOBS], &[u8], &mut [u8]), image: &[u8], plan: &[u8], out: &mut [u8]) -> i32 {
     answer(|| {
         let (table, norms) = checked(image)?;
         let [norm] = plan_norms(&norms, table.jobs, [plan])?;

@@ -1,4 +1,4 @@
-//! Norms of jobs and plans, refusals 6 to 9, and shortest runs.
+//! Norms of jobs and plans, and refusals 6 to 9.
 use crate::table::{Table, JOBS, RULES};
 use crate::Answer;
 
@@ -93,25 +93,4 @@ pub fn lowering_rules(table: &Table, norms: &[u16; JOBS], row_norms: &[u16; RULE
         }
     }
     lowering
-}
-
-/// Writes the moves of a shortest run; the output is twice as long as the plan's norm.
-pub fn shortest(table: &Table, norms: &[u16; JOBS], plan: &[u8], out: &mut [u8]) {
-    let lowering = lowering_rules(table, norms, &row_norms(table, norms));
-    let mut stack = [0; JOB_MOST as usize + 4];
-    let mut at = 0;
-    for &first in plan {
-        let mut height = 1;
-        stack[0] = first;
-        while height > 0 {
-            height -= 1;
-            let r = lowering[stack[height] as usize] as usize;
-            out[at..at + 2].copy_from_slice(&table.action(r).to_le_bytes());
-            at += 2;
-            for &j in table.after(r).iter().rev() {
-                stack[height] = j;
-                height += 1;
-            }
-        }
-    }
 }

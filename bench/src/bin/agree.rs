@@ -1,13 +1,15 @@
-//! The plain programs beside the second comparer: what the benchmark measures against answers rightly, and writes runs and moves
-//! by the definitions. The library and they on the pairs of plans that are timed table by table, which are as they shall be.
-use bench::calls::COMPARE;
-use bench::inputs::{single_table, SINGLE_TABLES};
+//! The plain programs beside the second comparer and the second way to first runs: what the benchmark measures against answers
+//! rightly, and writes moves by the definitions. The library and they on the plans that are timed, which are as they shall be.
+use bench::calls::{runs, COMPARE, RUN};
+use bench::inputs::{hostile_runs, single_table, Input, SINGLE_TABLES};
 use bench::pairs::{place_of, NEAR, PLAN_NORM};
+use outside::first_run::{bytes_of, first_run};
 use outside::harness::{Outcome, Suite};
 use outside::repeated::repeated;
 use outside::rng::Rng;
 use outside::second::Second;
 use outside::shapes::{Made, Shape, SHAPES};
+use outside::ties::tied;
 use outside::{ensure, ensure_eq};
 use std::process::ExitCode;
 
@@ -27,8 +29,12 @@ fn main() -> ExitCode {
         suite.random(&format!("plain, shape {shape:?}"), count, move |rng| agrees(&Made::new(shape, rng), rng));
     }
     suite.random("plain, repeated rules", 200, repeated_rules);
+    suite.random("plain, tied runs", 200, tied_runs);
     for (index, (name, ..)) in SINGLE_TABLES.iter().enumerate() {
         suite.fixed(&format!("1,000 pairs, {name}"), move || one_table(index));
+    }
+    for input in hostile_runs() {
+        suite.fixed(&format!("run, {}", input.name), move || same_runs(&input, 1));
     }
     suite.finish()
 }
@@ -37,6 +43,12 @@ fn repeated_rules(rng: &mut Rng) -> Outcome {
     let made = repeated(rng);
     ensure!(made.table.different_rules() < made.table.rules.len(), "no rule is repeated");
     agrees(&made, rng)
+}
+
+fn tied_runs(rng: &mut Rng) -> Outcome {
+    let made = tied(rng, 24, 512);
+    let plan = made.plan(rng, 1000);
+    runs_and_moves(&made, &made.table.image(), &plan)
 }
 
 fn agrees(made: &Made, rng: &mut Rng) -> Outcome {
@@ -60,13 +72,18 @@ fn agrees(made: &Made, rng: &mut Rng) -> Outcome {
     Ok(())
 }
 
-/// The run and the moves of a plan that the plain program writes, into an area of their length and into one that is too short.
+/// The run of a plan that the library and the plain program write, and the moves that the latter writes, into an area of their length
+/// and into one that is too short.
 fn runs_and_moves(made: &Made, image: &[u8], plan: &[u8]) -> Outcome {
-    let mut run = vec![0; 2 * made.norm(plan) as usize];
-    ensure_eq!(plain::shortest_run(image, plan, &mut run), run.len() as i32, "the run of {plan:?}");
-    ensure!(made.is_shortest_run(plan, &run), "{run:?} is no run of {plan:?} over {:?}", made.table);
-    if let Some((_, short)) = run.split_last_mut() {
-        ensure_eq!(plain::shortest_run(image, plan, short), -10, "the run of {plan:?} into an area one too short");
+    let wanted = bytes_of(&first_run(&made.table, &made.norms, plan));
+    let pair = (plan.to_vec(), Vec::new());
+    for (name, call) in RUN {
+        let mut run = vec![0; wanted.len()];
+        ensure_eq!(call(image, &pair, &mut run), run.len() as i32, "{name}: the run of {plan:?}");
+        ensure_eq!(run, wanted, "{name}: the run of {plan:?} over {:?}", made.table);
+        if let Some((_, short)) = run.split_last_mut() {
+            ensure_eq!(call(image, &pair, short), -10, "{name}: the run of {plan:?} into an area one too short");
+        }
     }
     let moves = made.table.moves(plan);
     for index in [moves.len() as u32, u32::MAX] {
@@ -101,6 +118,19 @@ fn one_table(index: usize) -> Outcome {
             let same = i32::from(place_of(i).is_none());
             ensure_eq!(call(&input.image, pair, &mut space), same, "{name} on pair {i} over {}", input.name);
         }
+    }
+    same_runs(&input, 12)
+}
+
+/// The library and the plain programs write the same runs of the left plans; so many first ones are worked out the second way, too.
+fn same_runs(input: &Input, worked_out: usize) -> Outcome {
+    let norms = input.table.finite_norms().expect("norms of jobs");
+    for (i, pair) in input.pairs.iter().enumerate() {
+        let [library, at_first, fast] = runs(&input.image, pair);
+        ensure_eq!(library.0 as usize, 2 * PLAN_NORM, "the bytes of run {i} over {}", input.name);
+        ensure!(library == at_first && library == fast, "run {i} over {} differs", input.name);
+        let first = || [bytes_of(&first_run(&input.table, &norms, &pair.0)), vec![0; 2]].concat();
+        ensure!(i >= worked_out || fast.1 == first(), "run {i} over {} is not the first", input.name);
     }
     Ok(())
 }

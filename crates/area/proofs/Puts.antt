@@ -4,7 +4,7 @@ use mathlib.Core.List.{List, _++_, append-assoc}
 use Prim.Native.Nat.{ℕ, _+_, _-_, _≤_}
 use native.Mathlib.Omega.{arith}
 use lib.ListN.{length, take, drop, length-append, length-drop}
-use lib.Seq.{length-take-le, take-at, drop-at, drop-drop, take-append-le, take-take}
+use lib.Seq.{length-take-le, take-at, drop-at, drop-drop, take-append-le, take-append-add, take-take}
 use Rattle.area.specs.Areas.{put}
 
 module _ (i : ℕ) (new xs : List ℕ) (inside : i ≤ length xs) where
@@ -21,6 +21,14 @@ module _ (i : ℕ) (new xs : List ℕ) (inside : i ≤ length xs) where
 
   pub put-behind : drop (i + length new) (put i new xs) ≡ drop (i + length new) xs
   put-behind = ap (drop (i + length new)) parts ∙ drop-at (take i xs ++ new) (drop (i + length new) xs) (i + length new) front-length
+
+  -- and up to a place among them
+  pub put-into : (k : ℕ) → k ≤ length new → take (i + k) (put i new xs) ≡ take i xs ++ take k new
+  put-into k h =
+      let room : length (take i xs) ≡ i = length-take-le i xs inside in
+      let at : i + k ≡ length (take i xs) + k = omega arith in
+      sym (take-take (i + k) (i + length new) (put i new xs) (omega arith)) ∙ ap (take (i + k)) put-up-to
+      ∙ ap (λ (n : ℕ). take n (take i xs ++ new)) at ∙ take-append-add (take i xs) new k
 
 module _ (i : ℕ) (new xs : List ℕ) (fits : i + length new ≤ length xs) where
   inside : i ≤ length xs

@@ -5,10 +5,10 @@ use Prim.Native.Nat.{ℕ, _+_, _≤_, _<_}
 use native.Mathlib.Numerals.{add-one}
 use native.Mathlib.Omega.{arith}
 use lib.ListN.{length, getD, take, drop, set, replicate, length-drop, length-replicate, drop-of-length-le}
-use lib.Seq.{length-take-le, take-suc, take-take, take-append-add, getD-take, getD-drop}
+use lib.Seq.{length-take-le, take-suc, take-take, getD-take, getD-drop}
 use Rattle.area.specs.Areas.{put}
 use Rattle.area.proofs.Parts.{part}
-use Rattle.area.proofs.Puts.{put-up-to, put-length, take-put}
+use Rattle.area.proofs.Puts.{put-into, put-length, take-put}
 use Rattle.area.proofs.PutLaws.{put-none, put-one, put-put, put-front}
 use Rattle.rows.proofs.LentRows.{lent-places, lent-slice}
 
@@ -57,13 +57,7 @@ pub copied-front : (from to len n : ℕ) (area after : List ℕ) → len ≤ n �
 copied-front from to len n area after l apart fits e =
     let v = take n (drop from area) in
     let size : length v ≡ n = long from to n area apart fits n (omega arith) in
-    let room : length (take to area) ≡ to = length-take-le to area (omega arith) in
-    let at : to + len ≡ length (take to area) + len = omega arith in
-    ap (take (to + len)) e
-    ∙ sym (take-take (to + len) (to + length v) (copied from to area n) (omega arith))
-    ∙ ap (take (to + len)) (put-up-to to v area (omega arith))
-    ∙ ap (λ (k : ℕ). take k (take to area ++ v)) at
-    ∙ take-append-add (take to area) v len
+    ap (take (to + len)) e ∙ put-into to v area (omega arith) len (omega arith)
     ∙ ap (λ (r : List ℕ). take to area ++ r) (take-take len n (drop from area) l)
 
 -- by way of an array that is filled

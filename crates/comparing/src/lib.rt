@@ -34,7 +34,7 @@ fn common_steps(left: &[u8], right: &[u8], end: usize) -> usize
 }
 
 // How many places two rows are equal from the front.
-fn common(left: &[u8], right: &[u8]) -> usize
+pub fn common(left: &[u8], right: &[u8]) -> usize
     ensures { λ r. ⌜ Common (now (left .entry)) (now (right .entry)) r ⌝ }
 {
     let end = lesser(left.len(), right.len());

@@ -1,7 +1,7 @@
 // The calls of the service, for C: numbers pass as themselves, and an area as a pointer and then a length. A call gives back a
 // result, or a refusal's number made negative; no call keeps anything for the next.
 ghost use Rattle.images.specs.ImageCalls.{Read, Written};
-ghost use Rattle.plans.specs.PlanCalls.{Normed, Moved, Ran};
+ghost use Rattle.plans.specs.PlanCalls.{Normed, Moved, RanFirst};
 ghost use Rattle.sameness.specs.SamenessCalls.{Compared, Formed};
 
 // The table of an image: the job count in one byte, then the rules, 8 bytes each.
@@ -28,10 +28,10 @@ pub extern "C" fn gindrazoma_plan_norm(image: &[u8], plan: &[u8]) -> i32
     plans::plan_norm(image, plan)
 }
 
-// A shortest run of a plan.
+// The first shortest run of a plan.
 #[no_mangle]
 pub extern "C" fn gindrazoma_shortest_run(image: &[u8], plan: &[u8], out: &mut [u8]) -> i32
-    ensures { λ r. ⌜ Ran (now (image .entry)) (now (plan .entry)) (now (out .entry)) r (now (out .exit)) ⌝ }
+    ensures { λ r. ⌜ RanFirst (now (image .entry)) (now (plan .entry)) (now (out .entry)) r (now (out .exit)) ⌝ }
 {
     plans::shortest_run(image, plan, out)
 }

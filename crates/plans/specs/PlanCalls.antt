@@ -1,5 +1,4 @@
 -- What the calls about one plan answer and leave behind, for every input. Assumes nothing: these are definitions.
-use mathlib.Core.Path.{_≡_}
 use mathlib.Core.List.{List}
 use Prim.Native.Nat.{ℕ}
 use lib.IntN.{ℤ}
@@ -9,7 +8,7 @@ use Rattle.answer.specs.Answer.{Gives, Writes}
 use Rattle.image.specs.Image.{table-in}
 use Rattle.moves.specs.Shown.{shown}
 use Rattle.moves.specs.Moves.{move-bytes}
-use Rattle.runs.specs.Runs.{Shortest}
+use Rattle.first_run.specs.FirstRun.{first-run}
 use Rattle.table.specs.CallRefusals.{one-plan}
 
 -- THE NORM of a plan
@@ -20,8 +19,6 @@ Normed bs p r = Gives (one-plan bs p) (norm (table-in bs) p) r
 abbrev pub Moved : (image plan : List ℕ) → (index : ℕ) → (out : List ℕ) → ℤ → (out′ : List ℕ) → Type 0
 Moved bs p n o r o′ = Writes (one-plan bs p) (move-bytes (shown (table-in bs) p) n) o r o′
 
--- A SHORTEST RUN: as many moves as the norm, two bytes each, leading to the empty plan; which one is free
-pub record Ran (bs p o : List ℕ) (r : ℤ) (o′ : List ℕ) : Type 0 where
-  pub run : List ℕ
-  pub shortest : one-plan bs p ≡ 0 → Shortest (table-in bs) p run
-  pub written : Writes (one-plan bs p) (all-low-first run) o r o′
+-- THE FIRST SHORTEST RUN: its moves, two bytes each
+abbrev pub RanFirst : (image plan out : List ℕ) → ℤ → (out′ : List ℕ) → Type 0
+RanFirst bs p o r o′ = Writes (one-plan bs p) (all-low-first (first-run (table-in bs) p)) o r o′

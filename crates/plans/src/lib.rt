@@ -1,8 +1,8 @@
-// The calls about one plan: its norm, its n-th move, a shortest run.
+// The calls about one plan: its norm, its n-th move, its first shortest run.
 use answer::or_else;
 use refusal::plan_refusal;
 use table::rules_of;
-ghost use Rattle.plans.specs.PlanCalls.{Normed, Moved, Ran};
+ghost use Rattle.plans.specs.PlanCalls.{Normed, Moved, RanFirst};
 
 // The fewest moves that lead to the empty plan.
 pub fn plan_norm(image: &[u8], plan: &[u8]) -> i32
@@ -36,9 +36,9 @@ pub fn nth_move(image: &[u8], plan: &[u8], index: u32, out: &mut [u8]) -> i32
     )
 }
 
-// A shortest run: as many moves as the norm, two bytes each.
+// The first shortest run in dictionary order of move numbers: as many moves as the norm, two bytes each.
 pub fn shortest_run(image: &[u8], plan: &[u8], out: &mut [u8]) -> i32
-    ensures { λ r. ⌜ Ran (now (image .entry)) (now (plan .entry)) (now (out .entry)) r (now (out .exit)) ⌝ }
+    ensures { λ r. ⌜ RanFirst (now (image .entry)) (now (plan .entry)) (now (out .entry)) r (now (out .exit)) ⌝ }
 {
     let table = table::load(image);
     let norms = table.norms;

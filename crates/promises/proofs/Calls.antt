@@ -41,7 +41,8 @@ use Rattle.sameness.specs.SamenessCalls.{Formed}
 use Rattle.promises.specs.Promises.{all-bytes}
 use Rattle.promises.specs.Calls as promised
 use Rattle.promises.proofs.ListedMoves.{listed-step, step-listed}
-use Rattle.promises.proofs.SmallMoves.{step-small, run-small}
+use Rattle.promises.proofs.SmallMoves.{step-small}
+use Rattle.promises.proofs.AcceptedCalls.{accepted-both}
 
 -- a job count and the rest of what was read
 parts : (n j : ℕ) (o ps : List ℕ) → n ≡ suc (length ps) → take n o ≡ j ∷ ps → (getD o 0 0 ≡ j) × (take (n - 1) (drop 1 o) ≡ ps)
@@ -75,16 +76,6 @@ table-survives jobs rs o o′ u u′ n r b w v l =
     let m = result-written (image-refusal (written jobs rs)) (table-bytes (table-in (written jobs rs))) u r u′ z (rw e l) k in
     rw e at m
 
--- a call about one plan that gives back a result has an accepted table and an accepted plan
-record AcceptedBoth (bs p : List ℕ) : Type 0 where
-  table : Accepted (table-in bs)
-  plan : AcceptedPlan (table-in bs) p
-
-accepted-both : (bs p : List ℕ) → one-plan bs p ≡ 0 → AcceptedBoth bs p
-accepted-both bs p h =
-    let (i, k) = neither (image-refusal bs) (plan-refusal (table-in bs) p) h in
-    record { table = image-table bs i; plan = accepted-plan (table-in bs) p k }
-
 pub norm-given : promised.Norm-given
 unfolding promised.Norm-given
 norm-given bs p n w =
@@ -92,23 +83,6 @@ norm-given bs p n w =
     let (f, v) = result-is (one-plan bs p) (norm t p) n w in
     let a = accepted-both bs p f in
     subst (Fewest t p) (sym v) (norm-fewest t (a .table .good) p (a .plan .over-table))
-
-pub run-written : promised.Run-written
-unfolding promised.Run-written all-bytes
-run-written bs p o o′ n b w =
-    let t = table-in bs in
-    let s = written-result (one-plan bs p) (all-low-first (w .run)) o o′ n (w .written) in
-    let a = accepted-both bs p (s .passed) in
-    let run = w .shortest (s .passed) in
-    let moves-are : numbers-in (take n o′) ≡ w .run = ap numbers-in (s .bytes) ∙ numbers-back (w .run) (run-small bs b (run .runs)) in (
-      subst (λ (x : List ℕ). Runs t p x []) (sym moves-are) (run .runs),
-      ap length (s .bytes) ∙ sym (s .count),
-      (
-        norm t p,
-        s .count ∙ all-length (w .run) ∙ ap (λ (m : ℕ). 2 * m) (run .count),
-        norm-fewest t (a .table .good) p (a .plan .over-table),
-      ),
-    )
 
 -- a move of two bytes and what stands behind it
 module _ (a : ℕ) (q xs : List ℕ) (e : xs ≡ low-first a ++ q) (small : a < 65536) where

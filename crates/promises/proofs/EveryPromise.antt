@@ -4,6 +4,7 @@ use Rattle.promises.proofs.Promises as promises
 use Rattle.promises.proofs.Calls as calls
 use Rattle.promises.proofs.BothAges as bothages
 use Rattle.promises.proofs.Remainders as remainders
+use Rattle.promises.proofs.FirstRuns as firstruns
 use Rattle.promises.proofs.WorkedCases as workedcases
 
 pub every-promise : EveryPromise
@@ -42,6 +43,12 @@ every-promise = record {
   steps-listed = promises.steps-listed;
   no-such-move = promises.no-such-move;
   moves-over = promises.moves-over;
+  run-first = firstruns.run-first;
+  run-count = firstruns.run-count;
+  run-single = firstruns.run-single;
+  rules-reordered = firstruns.rules-reordered;
+  run-written = firstruns.run-written;
+  reordered-written = firstruns.reordered-written;
   same-exactly = promises.same-exactly;
   apart-from-all = promises.apart-from-all;
   rounds-tell = promises.rounds-tell;
@@ -57,7 +64,6 @@ every-promise = record {
   image-survives = calls.image-survives;
   table-survives = calls.table-survives;
   norm-given = calls.norm-given;
-  run-written = calls.run-written;
   move-written = calls.move-written;
   steps-written = calls.steps-written;
   moves-written-once = calls.moves-written-once;

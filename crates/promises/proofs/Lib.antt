@@ -3,9 +3,11 @@ pub mod WrittenBytes
 pub mod ExactRefusals
 pub mod ListedMoves
 pub mod SmallMoves
+pub mod AcceptedCalls
 pub mod Promises
 pub mod Calls
 pub mod BothAges
 pub mod Remainders
+pub mod FirstRuns
 pub mod WorkedCases
 pub mod EveryPromise

@@ -32,12 +32,14 @@ use Rattle.image.proofs.TableBack.{table-held, table-back}
 use Rattle.moves.specs.Shown.{equal-plans, same-move, without, once, shown}
 use Rattle.moves.specs.Moves.{move-bytes}
 use Rattle.moves.proofs.ShownMoves.{plans-equal}
+use Rattle.first_run.specs.FirstRun.{First, earlier, earliest, runs-by, job-run, run-of, first-run}
+use Rattle.first_run.proofs.FirstRuns.{first-run-first}
 use Rattle.table.specs.CallRefusals.{one-plan, two-plans}
 use Rattle.table.proofs.ImageTables.{image-table}
 use Rattle.table.proofs.ListTables.{list-closed}
 use Rattle.promises.specs.WorkedCases.{Worked, image-of, read-back, listed, HasNorms, Means, plan-passes, pair-passes, has-form}
 use Rattle.promises.specs.WorkedCases.{passes, all-pass, cases, Cases-hold}
-use Rattle.promises.specs.WorkedCases.{Case, refusal-is, byte-is, norms-are, pair-refusal-is, are-same, are-apart, form-is, is-prime, move-is}
+use Rattle.promises.specs.WorkedCases.{Case, refusal-is, byte-is, norms-are, pair-refusal-is, are-same, are-apart, form-is, is-prime, move-is, run-is}
 
 -- THE COMPUTED PROOF
 cases-pass : all-pass cases ≡ true
@@ -48,6 +50,7 @@ unfolding all-pass passes has-form plan-passes pair-passes equal-plans same-move
     jobs-refusal sum-refusal plan-refusal plans-refusal number-at byte-sum checksum block blocks-in rules-in-block block-places each-block
     length-good sum-good rules-fit head-of head-good places-of-block block-good layout-refusal places-from image-jobs image-places table-in
     image-refusal low-first blocks-for rules-for body written-block written-from written list-refusal write-refusal
+    earlier earliest runs-by job-run run-of first-run
 cases-pass = refl
 
 module _ (w : Worked) where
@@ -125,6 +128,14 @@ module _ (w : Worked) where
       let over-table = accepted-plan (read-back w) p (check-passed check k) .over-table in
       (both-passed check k, subst (Form (read-back w) p) (row-back p row f e) (form-exists (read-back w) (good check k) p over-table))
 
+  run-holds : (p run : List ℕ) → (plan-passes w p && equal-plans (first-run (listed w) p) run) ≡ true → (one-plan (image-of w) p ≡ 0) × First (read-back w) p run
+  run-holds p run e =
+      let row : Table → List ℕ = λ t. first-run t p in
+      let check = check-plan p row run e in
+      let k = plan-passed p row run e in
+      let over-table = accepted-plan (read-back w) p (check-passed check k) .over-table in
+      (both-passed check k, subst (First (read-back w) p) (row-back p row run e) (first-run-first (read-back w) (good check k) p over-table))
+
 form-prime : (t : Table) (j : ℕ) → Form t (j ∷ []) (j ∷ []) → Prime t j
 form-prime t j f = go (f .lowest)
   where
@@ -153,6 +164,7 @@ case-true (are-apart w p q) e =
     (pair-accepted w p q k, λ b. never-both (same (listed w) p q) (pair-told w p q k .1 b) no)
 case-true (form-is w p f) e = form-holds w p f e
 case-true (is-prime w j) e = form-prime (read-back w) j (form-holds w (j ∷ []) (j ∷ []) e .1)
+case-true (run-is w p run) e = run-holds w p run e
 case-true (move-is w p n bs) e =
     let row : Table → List ℕ = λ t. move-bytes (shown t p) n in
     (both-passed w (check-plan w p row bs e) (plan-passed w p row bs e), row-back w p row bs e)

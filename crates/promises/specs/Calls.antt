@@ -4,19 +4,19 @@ use mathlib.Core.Path.{_≡_}
 use mathlib.Core.Bool.{true}
 use mathlib.Core.List.{List, [], _∷_, List·Memᴰ}
 use mathlib.Core.Logic.{_↔_, _⊎_}
-use Prim.Native.Nat.{ℕ, _+_, _*_, _-_, _≤_, _<_}
+use Prim.Native.Nat.{ℕ, _+_, _-_, _≤_, _<_}
 use lib.IntN.{ℤ, pos}
 use lib.ListN.{length, getD, take, drop}
-use Rattle.bpa.specs.Plans.{Step, Runs}
+use Rattle.bpa.specs.Plans.{Step}
 use Rattle.bpa.specs.Norms.{Fewest}
 use Rattle.bpa.specs.Bisimilar.{Bisimilar, Lowest, Form}
-use Rattle.area.specs.Numbers.{number-at, numbers-in}
+use Rattle.area.specs.Numbers.{number-at}
 use Rattle.image.specs.Image.{image-refusal, table-in}
 use Rattle.moves.specs.Shown.{shown}
 use Rattle.moves.specs.Moves.{move-bytes}
 use Rattle.table.specs.CallRefusals.{one-plan}
 use Rattle.images.specs.ImageCalls.{Read, Written}
-use Rattle.plans.specs.PlanCalls.{Normed, Moved, Ran}
+use Rattle.plans.specs.PlanCalls.{Normed, Moved}
 use Rattle.sameness.specs.SamenessCalls.{Compared, Formed}
 use Rattle.promises.specs.Promises.{all-bytes}
 
@@ -37,13 +37,6 @@ Table-survives =
 -- the norm given back is the fewest moves to the empty plan
 unfoldable pub Norm-given : Type 0
 Norm-given = (bs p : List ℕ) (n : ℕ) → Normed bs p (pos n) → Fewest (table-in bs) p n
-
--- the moves written, two bytes each, are a shortest run: they lead to the empty plan, and no run that does has fewer
-unfoldable pub Run-written : Type 0
-Run-written =
-    (bs p o o′ : List ℕ) (n : ℕ) → all-bytes bs ≡ true → Ran bs p o (pos n) o′ →
-    Runs (table-in bs) p (numbers-in (take n o′)) [] × (length (take n o′) ≡ n)
-    × ((v : ℕ) × (n ≡ 2 * v) × Fewest (table-in bs) p v)
 
 -- the call for the n-th move writes the n-th move shown and answers 0 exactly if there is none; what it writes is a step: its move in
 -- two bytes, then the remaining plan

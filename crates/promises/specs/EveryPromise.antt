@@ -4,6 +4,7 @@ use Rattle.promises.specs.Promises as promises
 use Rattle.promises.specs.Calls as calls
 use Rattle.promises.specs.BothAges as bothages
 use Rattle.promises.specs.Remainders as remainders
+use Rattle.promises.specs.FirstRuns as firstruns
 use Rattle.promises.specs.WorkedCases as workedcases
 
 pub record EveryPromise : Type 1 where
@@ -47,6 +48,13 @@ pub record EveryPromise : Type 1 where
   pub steps-listed : promises.Steps-listed
   pub no-such-move : promises.No-such-move
   pub moves-over : promises.Moves-over
+  -- THE FIRST SHORTEST RUN
+  pub run-first : firstruns.Run-first
+  pub run-count : firstruns.Run-count
+  pub run-single : firstruns.Run-single
+  pub rules-reordered : firstruns.Rules-reordered
+  pub run-written : firstruns.Run-written
+  pub reordered-written : firstruns.Reordered-written
   -- SAMENESS
   pub same-exactly : promises.Same-exactly
   pub apart-from-all : promises.Apart-from-all
@@ -65,7 +73,6 @@ pub record EveryPromise : Type 1 where
   pub image-survives : calls.Image-survives
   pub table-survives : calls.Table-survives
   pub norm-given : calls.Norm-given
-  pub run-written : calls.Run-written
   pub move-written : calls.Move-written
   pub steps-written : calls.Steps-written
   pub moves-written-once : calls.Moves-written-once

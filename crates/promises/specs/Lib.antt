@@ -3,5 +3,6 @@ pub mod Promises
 pub mod Calls
 pub mod BothAges
 pub mod Remainders
+pub mod FirstRuns
 pub mod WorkedCases
 pub mod EveryPromise

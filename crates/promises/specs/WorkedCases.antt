@@ -1,5 +1,5 @@
--- The worked tables of document 01 marked P, two of them from 000, one whose moves need two bytes, and one with a choice written again and again: one
--- list of cases, what each means, and one test over them.
+-- The worked tables of document 01 marked P, two of them from 000, one whose moves need two bytes, one with a choice written again and again, and
+-- one with several shortest runs, in two orders: one list of cases, what each means, and one test over them.
 -- The test computes on the rules of a table; the meaning is of the image that is written from them. Assumes nothing: these are
 -- definitions.
 use mathlib.Core.Path.{_≡_}
@@ -19,6 +19,7 @@ use Rattle.image.specs.Image.{table-in, image-refusal}
 use Rattle.image.specs.Writing.{written, list-refusal, write-refusal}
 use Rattle.moves.specs.Shown.{equal-plans, shown}
 use Rattle.moves.specs.Moves.{move-bytes}
+use Rattle.first_run.specs.FirstRun.{First, first-run}
 use Rattle.table.specs.CallRefusals.{one-plan, two-plans}
 
 -- A WORKED TABLE: a job count, and the rules as 8-byte places in a row
@@ -49,6 +50,8 @@ pub data Case : Type 0 where
   is-prime : (w : Worked) (job : ℕ) → Case
   -- the n-th move shown as bytes; none is no such move
   move-is : (w : Worked) (plan : List ℕ) (n : ℕ) (bytes : List ℕ) → Case
+  -- the first shortest run
+  run-is : (w : Worked) (plan run : List ℕ) → Case
 
 -- a job of norm 0 has no run to its end
 abbrev pub HasNorms : Table → (jobs : ℕ) → (by-job : List ℕ) → Type 0
@@ -66,6 +69,7 @@ Means (are-apart w p q) = (two-plans (image-of w) p q ≡ 0) × (Bisimilar (read
 Means (form-is w p f) = (one-plan (image-of w) p ≡ 0) × Form (read-back w) p f
 Means (is-prime w j) = Prime (read-back w) j
 Means (move-is w p n bs) = (one-plan (image-of w) p ≡ 0) × (move-bytes (shown (read-back w) p) n ≡ bs)
+Means (run-is w p run) = (one-plan (image-of w) p ≡ 0) × First (read-back w) p run
 
 -- THE TEST
 -- no refusal meets the list and the plans
@@ -88,6 +92,7 @@ passes (are-apart w p q) = pair-passes w p q && not (same (listed w) p q)
 passes (form-is w p f) = has-form w p f
 passes (is-prime w j) = has-form w (j ∷ []) (j ∷ [])
 passes (move-is w p n bs) = plan-passes w p && equal-plans (move-bytes (shown (listed w) p) n) bs
+passes (run-is w p run) = plan-passes w p && equal-plans (first-run (listed w) p) run
 
 unfoldable pub all-pass : List Case → Bool
 all-pass [] = true
@@ -150,6 +155,27 @@ choice-repeated =
       rules = to-one 0 97 1 ++ to-one 1 97 1 ++ to-one 0 97 1 ++ to-none 0 98 ++ to-none 1 97 ++ to-one 0 97 1 ++ to-none 0 97;
     }
 
+-- job 2 may begin with a and go on with b or with c, each as short; a move that comes before a leads to a longer run. Job 3 may make move 255
+-- or 256, whose low bytes are the other way round
+abbrev pub ties : Worked
+ties =
+    record {
+      jobs = 4;
+      rules =
+          to-none 0 99 ++ to-none 1 98 ++ to-one 2 97 0 ++ to-one 2 97 1 ++ to-two 2 96 1 1 ++ (3 ∷ 0 ∷ 0 ∷ 0 ∷ 0 ∷ 0 ∷ 0 ∷ 1 ∷ []) ++
+          to-none 3 255;
+    }
+
+-- the same rules in another order
+abbrev pub ties-reordered : Worked
+ties-reordered =
+    record {
+      jobs = 4;
+      rules =
+          to-none 3 255 ++ to-one 2 97 1 ++ to-two 2 96 1 1 ++ (3 ∷ 0 ∷ 0 ∷ 0 ∷ 0 ∷ 0 ∷ 0 ∷ 1 ∷ []) ++ to-none 1 98 ++ to-one 2 97 0 ++
+          to-none 0 99;
+    }
+
 abbrev pub cases : List Case
 cases =
     refusal-is table-t 0 ∷ byte-is table-t 510 152 ∷ byte-is table-t 511 1 ∷ norms-are table-t (1 ∷ 2 ∷ 3 ∷ 2 ∷ []) ∷
@@ -170,7 +196,10 @@ cases =
     move-is larger-moves (0 ∷ 1 ∷ []) 0 (232 ∷ 3 ∷ 1 ∷ []) ∷
     move-is choice-repeated (0 ∷ 1 ∷ []) 0 (97 ∷ 0 ∷ 1 ∷ 1 ∷ []) ∷ move-is choice-repeated (0 ∷ 1 ∷ []) 1 (98 ∷ 0 ∷ 1 ∷ []) ∷
     move-is choice-repeated (0 ∷ 1 ∷ []) 2 (97 ∷ 0 ∷ 1 ∷ []) ∷ move-is choice-repeated (0 ∷ 1 ∷ []) 3 [] ∷
-    move-is choice-repeated (1 ∷ []) 1 (97 ∷ 0 ∷ []) ∷ move-is choice-repeated (1 ∷ []) 2 [] ∷ move-is choice-repeated [] 0 [] ∷ []
+    move-is choice-repeated (1 ∷ []) 1 (97 ∷ 0 ∷ []) ∷ move-is choice-repeated (1 ∷ []) 2 [] ∷ move-is choice-repeated [] 0 [] ∷
+    run-is ties (2 ∷ []) (97 ∷ 98 ∷ []) ∷ run-is ties (3 ∷ 2 ∷ 0 ∷ []) (255 ∷ 97 ∷ 98 ∷ 99 ∷ []) ∷
+    run-is ties-reordered (3 ∷ 2 ∷ 0 ∷ []) (255 ∷ 97 ∷ 98 ∷ 99 ∷ []) ∷ run-is ties [] [] ∷
+    run-is table-t (2 ∷ 3 ∷ []) (97 ∷ 97 ∷ 97 ∷ 98 ∷ 97 ∷ []) ∷ []
 
 -- EVERY CASE IS TRUE
 unfoldable pub Cases-hold : Type 0

@@ -17,7 +17,7 @@ use Rattle.norm.proofs.Agreement.{sum-agree}
 use Rattle.refusal.specs.Refusals.{jobs-refusal, sum-refusal, plan-refusal, plans-refusal, Accepted, AcceptedPlan}
 
 -- a test that refuses by a number
-passed : (b : Bool) (v : ℕ) → cond b 0 (suc v) ≡ 0 → b ≡ true
+pub passed : (b : Bool) (v : ℕ) → cond b 0 (suc v) ≡ 0 → b ≡ true
 passed true v h = refl
 passed false v h = absurd (omega arith)
 

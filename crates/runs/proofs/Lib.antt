@@ -1,5 +1,3 @@
--- Laws of runs and of the moves written.
-pub mod RunLaws
-pub mod Stack
-pub mod Choosing
+-- The first run of a plan, job by job.
+pub mod PutRows
 pub mod PlanRun

@@ -98,7 +98,8 @@ impl Table {
         Refusal::check(raw::plan_norm(&self.image, plan))
     }
 
-    /// Moves that lead from a plan to the empty plan, as few as can be.
+    /// Moves that lead from a plan to the empty plan, as few as can be: of all such runs the first in dictionary order of move
+    /// numbers. The order of the rules does not matter, nor how often one is written.
     #[inline]
     pub fn shortest_run(&self, plan: &[u8]) -> Result<Vec<u16>, Refusal> {
         let run = written(raw::RUN_MAX, |out| raw::shortest_run(&self.image, plan, out))?;

@@ -89,3 +89,52 @@ fn runs() {
     assert_eq!(table().shortest_run(&[2, 0]), Ok(vec![99, 97, 97, 97]));
     assert_eq!(table().shortest_run(&[0; 4097]), Err(Refusal::PlanNormHigh));
 }
+
+/// Seven rules lower the norm of job 5, and two of them give its first run. Its rule with the least move does not, nor does that
+/// of job 3.
+fn rules_with_ties() -> Vec<Rule> {
+    vec![
+        Rule::new(0, 255, &[]),
+        Rule::new(1, 256, &[]),
+        Rule::new(2, 1, &[]),
+        Rule::new(3, 7, &[1]),
+        Rule::new(3, 7, &[0]),
+        Rule::new(3, 6, &[2, 2]),
+        Rule::new(4, 7, &[0]),
+        Rule::new(5, 9, &[1, 3]),
+        Rule::new(5, 9, &[3, 1]),
+        Rule::new(5, 9, &[4, 0]),
+        Rule::new(5, 9, &[3, 2]),
+        Rule::new(5, 9, &[4, 2]),
+        Rule::new(5, 9, &[0, 3]),
+        Rule::new(5, 10, &[2, 3]),
+        Rule::new(5, 0, &[5]),
+    ]
+}
+
+#[test]
+fn first_runs() {
+    let t = Table::from_rules(6, &rules_with_ties()).unwrap();
+    assert_eq!(t.shortest_run(&[3]), Ok(vec![7, 255]));
+    assert_eq!(t.shortest_run(&[5]), Ok(vec![9, 7, 255, 1]));
+    assert_eq!(t.shortest_run(&[2, 5, 3, 1]), Ok(vec![1, 9, 7, 255, 1, 7, 255, 256]));
+    let two = Table::from_rules(1, &[Rule::new(0, 256, &[]), Rule::new(0, 255, &[]), Rule::new(0, 0, &[0])]).unwrap();
+    assert_eq!(two.shortest_run(&[0; 4096]), Ok(vec![255; 4096]));
+}
+
+#[test]
+fn first_runs_whatever_the_order_of_the_rules() {
+    let mut rules = rules_with_ties();
+    for again in [false, true] {
+        if again {
+            rules.extend_from_within(3..12);
+        }
+        for _ in 0..rules.len() {
+            rules.rotate_left(1);
+            for rules in [rules.clone(), rules.iter().rev().cloned().collect()] {
+                let t = Table::from_rules(6, &rules).unwrap();
+                assert_eq!(t.shortest_run(&[5, 3]), Ok(vec![9, 7, 255, 1, 7, 255]));
+            }
+        }
+    }
+}

@@ -1,6 +1,8 @@
-//! What the tests over the archive are made of: tables by the definitions, a second comparer, random shapes, guarded areas.
+//! What the tests over the archive are made of: tables by the definitions, a second comparer and a second way to first runs,
+//! random shapes, guarded areas.
 pub mod area;
 pub mod damage;
+pub mod first_run;
 pub mod harness;
 pub mod old_format;
 pub mod play;
@@ -10,3 +12,4 @@ pub mod rng;
 pub mod second;
 pub mod shapes;
 pub mod table;
+pub mod ties;

@@ -263,7 +263,7 @@ fn change_moves(rng: &mut Rng, table: &mut Table) {
 }
 
 /// Some rules doubled, and the rules shuffled.
-fn finished(rng: &mut Rng, table: Table) -> Table {
+pub(crate) fn finished(rng: &mut Rng, table: Table) -> Table {
     let mut rules = table.rules;
     if rng.once_in(3) {
         for _ in 0..rng.range(1, 3).min(252 - rules.len()) {
@@ -392,7 +392,7 @@ fn cover(rng: &mut Rng, words: &[Plan], word: &[u8], most: usize) -> Option<Plan
     Some(plan)
 }
 
-fn renumbered(rng: &mut Rng, table: Table, words: Vec<Plan>) -> Option<Made> {
+pub(crate) fn renumbered(rng: &mut Rng, table: Table, words: Vec<Plan>) -> Option<Made> {
     let mut number: Vec<u8> = (0..table.jobs as u8).collect();
     rng.shuffle(&mut number);
     let anew = |plan: &[u8]| -> Plan { plan.iter().map(|&j| number[j as usize]).collect() };

@@ -1,6 +1,5 @@
 -- `plans::shortest_run` meets its contract. Assumes nothing.
 use mathlib.Core.Path.{_∙_}
-use mathlib.Core.List.{[]}
 use borrow.Author.Needs.{needs}
 use mir.Syntax.{w32}
 use mir.ValLaws.{toZ-ofZ}
@@ -15,11 +14,7 @@ returns c =
     let l = o .before .before .before .before in
     let p = l .before .before .before .before .args .plan .now in
     let e = plan-chain (l .load .ensures) p (o .before .plan-refusal .ensures) (o .or-else .ensures) in
-    record {
-      run = [];
-      shortest = λ z. absurd (c .before .if1 .taken (e ∙ z));
-      written = writes-refused e (c .before .if1 .taken) (toZ-ofZ w32 (c .refused .result) (record { sfits = c .refused .ok }) ∙ c .refused .ensures);
-    }
+    writes-refused e (c .before .if1 .taken) (toZ-ofZ w32 (c .refused .result) (record { sfits = c .refused .ok }) ∙ c .refused .ensures)
 
 shortest-run-requires : tie.Need-shortest-run-requires
 shortest-run-requires c κs =
@@ -39,13 +34,8 @@ returns-2 c =
     let p = l .before .before .before .before .args .plan .now in
     let k = plan-ready (l .load .ensures) p (o .before .plan-refusal .ensures) (o .or-else .ensures) (e .if1 .left) in
     let w = rw (m .before .before .before .rules-of .ensures, k .is) at (m .shortest-run .ensures) in
-    record {
-      run = w .run;
-      shortest = λ z. w .shortest;
-      written =
-          writes-done (plan-chain (l .load .ensures) p (o .before .plan-refusal .ensures) (o .or-else .ensures)) (e .if1 .left)
-          (rw (toZ-ofZ w32 (m .shortest-run .result) (record { sfits = m .shortest-run .ok })) (w .written));
-    }
+    writes-done (plan-chain (l .load .ensures) p (o .before .plan-refusal .ensures) (o .or-else .ensures)) (e .if1 .left)
+    (rw (toZ-ofZ w32 (m .shortest-run .result) (record { sfits = m .shortest-run .ok })) w)
 
 pub shortest-run-spec : {M : Type 1} → statement M
 shortest-run-spec =

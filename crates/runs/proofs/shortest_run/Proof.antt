@@ -1,15 +1,28 @@
 -- `runs::shortest_run` meets its contract. Assumes nothing.
-use mathlib.Core.Path.{_≡_, _∙_}
+use mathlib.Core.Path.{_≡_, sym, ap, ap₂, _∙_, subst}
+use mathlib.Core.List.{List, _++_}
+use Prim.Native.Nat.{ℕ, suc, _*_, _-_, _≤_}
 use native.Mathlib.Omega.{arith}
 use borrow.Author.Needs.{needs}
+use lib.IntN.{pos}
+use lib.ListN.{length, drop}
+use lib.Seq.{length-take-le}
 use mir.Syntax.{w32}
 use mir.ValLaws.{toZ-ofZ}
 use Rattle.bpa.specs.Plans.{over}
-use Rattle.bpa.specs.Norms.{norm}
-use Rattle.rules.specs.Places.{table-of}
+use Rattle.bpa.specs.Norms.{sum-of, norm}
 use Rattle.bpa.proofs.Basics.JobsBelow.{below-more}
+use Rattle.rules.specs.Places.{table-of}
 use Rattle.refusal.proofs.PlanRefusals.{array-norm}
-use Rattle.runs.proofs.PlanRun.{no-room, whole-run}
+use Rattle.area.specs.Numbers.{all-low-first}
+use Rattle.area.specs.Areas.{put}
+use Rattle.area.proofs.Numbers.{all-length}
+use Rattle.area.proofs.Puts.{put-length}
+use Rattle.area.proofs.PutLaws.{put-front}
+use Rattle.answer.proofs.Answers.{too-short, written}
+use Rattle.first_run.specs.FirstRun.{first-run}
+use Rattle.first_run.proofs.FirstRuns.{first-run-length}
+use Rattle.choices.specs.Choices.{Chosen}
 use Rattle.runs.proofs.shortest_run.Statement.{statement}
 use Rattle.runs.proofs.shortest_run.Tie as tie
 
@@ -25,44 +38,96 @@ cast-need c = search needs
 mul-need : tie.Need-mul-need
 mul-need c = search needs
 
--- the norm of the plan
-need : (c : tie.After-capped-sum) →
-    c .capped-sum .result ≡ norm (table-of (c .before .before .before .before .args .jobs) (c .before .before .before .before .args .rules .now)) (c .before .before .before .before .args .plan .now)
-need c =
-    let s = c .before .before .before .before in
-    let e = array-norm (table-of (s .args .jobs) (s .args .rules .now)) (s .args .norms .now) (s .pre .0 .exact) (s .args .plan .now) in
-    omega (arith, c .capped-sum .ensures, s .pre .1 .1)
+-- what is given, and the run
+module _ (c : tie.After-capped-sum) where
+  abbrev start : tie.Start
+  start = c .before .before .before .before
+
+  abbrev bytes : List ℕ
+  bytes = all-low-first (first-run (table-of (start .args .jobs) (start .args .rules .now)) (start .args .plan .now))
+
+  sum-is : sum-of (start .args .norms .now) (start .args .plan .now) ≡ norm (table-of (start .args .jobs) (start .args .rules .now)) (start .args .plan .now)
+  sum-is = array-norm (table-of (start .args .jobs) (start .args .rules .now)) (start .args .norms .now) (start .pre .0 .exact) (start .args .plan .now)
+
+  norm-is : c .capped-sum .result ≡ sum-of (start .args .norms .now) (start .args .plan .now)
+  norm-is = omega (arith, c .capped-sum .ensures, start .pre .1 .1, sum-is)
+
+  -- two bytes a move, and as many moves as the norm
+  bytes-are : length bytes ≡ 2 * c .capped-sum .result
+  bytes-are =
+      let t = table-of (start .args .jobs) (start .args .rules .now) in
+      let p = start .args .plan .now in
+      omega (arith, all-length (first-run t p), first-run-length t (start .pre .0 .good) p (start .pre .1 .0), norm-is, sum-is)
 
 returns : tie.Need-returns
-returns c =
-    let s = c .before .before .before .before .before in
-    no-room (table-of (s .args .jobs) (s .args .rules .now)) (s .args .plan .now) (s .args .out .now) (s .pre .0 .good) (s .pre .1 .0) (omega (arith, need (c .before), c .if1 .taken))
+returns c = too-short (bytes (c .before)) (start (c .before) .args .out .now) (omega (arith, bytes-are (c .before), c .if1 .taken))
 
-choices-requires : tie.Need-choices-requires
-choices-requires c κs = search needs
+slice-aggregate-choose : tie.Need-slice-aggregate-choose
+slice-aggregate-choose c = search needs
 
-run-plan-requires : tie.Need-run-plan-requires
-run-plan-requires c κs =
-    let s = c .before .before .before .before .before .before .before .before in
-    (c .before .before .choices .ensures, (s .pre .1 .0, omega (arith, need (c .before .before .before .before), c .before .before .before .if1 .left)))
+choose-requires : tie.Need-choose-requires
+choose-requires c κs = search needs
+
+slice-aggregate-write-run : tie.Need-slice-aggregate-write-run
+slice-aggregate-write-run c = search needs
+
+sub-write-run : tie.Need-sub-write-run
+sub-write-run c = search needs
+
+part-write-run-start : tie.Need-part-write-run-start
+part-write-run-start c = search needs
+
+part-write-run-end : tie.Need-part-write-run-end
+part-write-run-end c =
+    let e = c .before .before .before .before .before in
+    omega (arith, e .if1 .left)
+
+write-run-requires : tie.Need-write-run-requires
+write-run-requires c κs =
+    let m = c .before .before .before .before in
+    let e = m .before .before in
+    let d = e .before in
+    let s = start d in
+    let a = s .args in (
+      s .pre .0,
+      (
+        subst (λ (k : ℕ). Chosen (a .jobs) (a .rules .now) (a .norms .now) (m .choose .result) (m .choose .last .1 .1 .1 .1 .0) (suc k)) (norm-is d) (m .choose .ensures),
+        (s .pre .1 .0, length-take-le (2 * d .capped-sum .result - 0) (a .out .now) (omega (arith, e .if1 .left)) ∙ omega (arith, norm-is d)),
+      ),
+    )
+
+-- the bytes of the run, and what stood behind them
+module _ (c : tie.After-write-run) where
+  abbrev summed : tie.After-capped-sum
+  summed = c .before .before .before .before .before .before .before .before
+
+  abbrev out : List ℕ
+  out = start summed .args .out .now
+
+  room : length (bytes summed) ≤ length out
+  room = omega (arith, bytes-are summed, c .before .before .before .before .before .before .before .if1 .left)
+
+  out-is : c .write-run .last .1 .1 .1 .1 .1 .1 .0 ++ drop (2 * summed .capped-sum .result - 0) out ≡ put 0 (bytes summed) out
+  out-is =
+      let k : 2 * summed .capped-sum .result - 0 ≡ length (bytes summed) = omega (arith, bytes-are summed) in
+      ap₂ (λ (l : List ℕ) (m : ℕ). l ++ drop m out) (c .write-run .ensures) k ∙ sym (put-front (bytes summed) out)
 
 result-requires : tie.Need-result-requires
 result-requires c κs =
-    let k = c .before .before .run-plan in
-    let s = c .before .before .before .before .before .before .before .before .before .before .before in
-    omega (arith, k .ensures .next, k .ensures .falls, s .pre .1 .1)
+    let d = summed (c .before .before) in
+    omega (arith, norm-is d, sum-is d, start d .pre .1 .1)
 
 same-length : tie.Need-same-length
-same-length c = search needs
+same-length c =
+    let w = c .before .before .before in
+    ap length (out-is w) ∙ put-length 0 (bytes (summed w)) (out w) (omega (arith, room w))
 
 returns-2 : tie.Need-returns-2
 returns-2 c =
-    let s = c .before .before .before .before .before .before .before .before .before .before .before .before in
-    let k = c .before .before .before .run-plan in
-    let at-norm = c .before .before .before .before .before .before .before .before in
-    whole-run (table-of (s .args .jobs) (s .args .rules .now)) (s .args .plan .now) (s .args .out .now) _ (k .result) (k .last .1 .1 .1 .1 .0)
-    (omega (arith, need at-norm, c .before .before .before .before .before .before .before .if1 .left)) (k .ensures)
-    (toZ-ofZ w32 (c .result .result) (record { sfits = c .result .ok }) ∙ c .result .ensures)
+    let w = c .before .before .before in
+    let d = summed w in
+    written (bytes d) (out w) (room w)
+    (toZ-ofZ w32 (c .result .result) (record { sfits = c .result .ok }) ∙ c .result .ensures ∙ ap pos (sym (bytes-are d))) (out-is w)
 
 pub shortest-run-spec : {M : Type 1} → statement M
 shortest-run-spec =
@@ -72,8 +137,13 @@ shortest-run-spec =
     cast-need
     mul-need
     returns
-    choices-requires
-    run-plan-requires
+    slice-aggregate-choose
+    choose-requires
+    slice-aggregate-write-run
+    sub-write-run
+    part-write-run-start
+    part-write-run-end
+    write-run-requires
     result-requires
     same-length
     returns-2)

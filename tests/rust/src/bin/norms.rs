@@ -1,15 +1,17 @@
-//! Norms of plans, moves by index, shortest runs.
-use gindrazoma::raw::{nth_move, plan_norm, read_image, shortest_run, READ_MAX};
+//! Norms of plans, moves by index, first shortest runs.
+use gindrazoma::raw::{nth_move, plan_norm, read_image, shortest_run, write_image, IMAGE_MAX, READ_MAX, RUN_MAX};
 use outside::area::Area;
 use outside::damage::damaged;
+use outside::first_run::{all_runs, bytes_of, first_run};
 use outside::harness::{Outcome, Suite};
 use outside::refusals::of_plans;
-use outside::repeated::{kinds, nearly_repeated, KINDS};
+use outside::repeated::{kinds, nearly_repeated, write_again, KINDS};
 use outside::rng::Rng;
-use outside::shapes::{Made, EDGES, SHAPES};
+use outside::shapes::{Made, Shape, EDGES, SHAPES};
 use outside::table::{rule, Plan, Table};
+use outside::ties::{self, tied};
 use outside::{ensure, ensure_eq};
-use std::collections::BTreeMap;
+use std::collections::{BTreeMap, BTreeSet};
 use std::process::ExitCode;
 
 fn main() -> ExitCode {
@@ -20,7 +22,11 @@ fn main() -> ExitCode {
     suite.random("norms", 6000, norms);
     suite.random("every move of a plan", 1500, every_move);
     suite.random("repeated rules", 500, repeated_rules);
+    suite.fixed("every kind of tie", kinds_of_ties);
     suite.random("shortest runs", 3000, shortest_runs);
+    suite.random("all shortest runs", 1000, all_shortest_runs);
+    suite.random("tied runs", 600, tied_runs);
+    suite.random("rules in another order", 600, rules_in_another_order);
     suite.random("long plans", 300, long_plans);
     suite.random("refused calls", 8000, refused_calls);
     suite.finish()
@@ -81,7 +87,7 @@ fn moves_of_two_bytes() -> Outcome {
         ensure_eq!(shortest_run(&image, &[0, 1, 2, 3], &mut out[..len]), if len < 8 { -10 } else { 8 }, "a run into {len} bytes");
         ensure_eq!(out, wanted, "a run into {len} bytes");
     }
-    run_of(&mut rng, &made, &image, &[4, 4, 2])
+    run_of(&mut rng, &image, &[4, 4, 2], &[0, 65535, 0, 65535, 256])
 }
 
 fn norms(rng: &mut Rng) -> Outcome {
@@ -136,14 +142,19 @@ fn moves_of(rng: &mut Rng, table: &Table, image: &[u8], plan: &[u8]) -> Outcome 
 
 /// The tables with repeated rules have every kind of them often.
 fn kinds_of_repeated_rules() -> Outcome {
+    often(&KINDS, |rng| kinds(&nearly_repeated(rng).table.rules))
+}
+
+/// Each kind is found in 10 of 100 tables or more.
+fn often(all: &[&'static str], found: impl Fn(&mut Rng) -> BTreeSet<&'static str>) -> Outcome {
     let mut rng = Rng::new(1);
     let mut often = BTreeMap::new();
     for _ in 0..100 {
-        for kind in kinds(&nearly_repeated(&mut rng).table.rules) {
+        for kind in found(&mut rng) {
             *often.entry(kind).or_insert(0) += 1;
         }
     }
-    for kind in KINDS {
+    for kind in all {
         ensure!(often.get(kind).is_some_and(|&tables| tables >= 10), "{kind}: in {:?} of 100 tables", often.get(kind));
     }
     Ok(())
@@ -167,40 +178,93 @@ fn repeated_rules(rng: &mut Rng) -> Outcome {
     Ok(())
 }
 
-fn shortest_runs(rng: &mut Rng) -> Outcome {
-    let made = Made::new(*rng.pick(&SHAPES), rng);
-    let image = made.table.image();
-    let plan = made.plan(rng, 60);
-    run_of(rng, &made, &image, &plan)
+/// The tables with ties have every kind of them often.
+fn kinds_of_ties() -> Outcome {
+    often(&ties::KINDS, |rng| ties::kinds(&tied(rng, 24, 60)))
 }
 
-fn run_of(rng: &mut Rng, made: &Made, image: &[u8], plan: &[u8]) -> Outcome {
-    let norm = made.norm(plan) as usize;
-    let need = 2 * norm;
-    let mut first = None;
-    for len in [need, need + 1, need + rng.below(50), need.saturating_sub(1), need.saturating_sub(2), norm, 0] {
-        let mut out = Area::new(rng, len);
-        let expected = if len < need { -10 } else { need as i32 };
-        ensure_eq!(shortest_run(image, plan, out.bytes()), expected, "run of {plan:?} into {len} bytes");
-        let used = expected.max(0) as usize;
-        let run = out.first(used).to_vec();
-        ensure!(expected < 0 || made.is_shortest_run(plan, &run), "{run:?} is no run of {plan:?}");
-        ensure!(out.kept_beyond(used), "bytes beyond the output have changed");
-        if expected >= 0 {
-            ensure_eq!(first.get_or_insert(run.clone()), &run, "the run given a second time");
-        }
+fn shortest_runs(rng: &mut Rng) -> Outcome {
+    let made = Made::new(*rng.pick(&SHAPES), rng);
+    let plan = made.plan(rng, 60);
+    let run = first_run(&made.table, &made.norms, &plan);
+    ensure!(made.is_shortest_run(&plan, &bytes_of(&run)), "{run:?} is no run of {plan:?}");
+    run_of(rng, &made.table.image(), &plan, &run)
+}
+
+/// Every run of as few moves as can be, and the least of them.
+fn all_shortest_runs(rng: &mut Rng) -> Outcome {
+    let made = if rng.once_in(2) { Made::new(Shape::Tiny, rng) } else { tied(rng, 5, 5) };
+    let plan = made.plan(rng, 7);
+    let runs = (0..).map(|moves| all_runs(&made.table, &plan, moves)).find(|runs| !runs.is_empty());
+    let first = runs.and_then(|runs| runs.into_iter().min()).expect("a run");
+    ensure_eq!(first_run(&made.table, &made.norms, &plan), first, "the first run of {plan:?} by its places");
+    run_of(rng, &made.table.image(), &plan, &first)
+}
+
+fn tied_runs(rng: &mut Rng) -> Outcome {
+    let most = *rng.pick(&[8, 60, 512]);
+    let made = tied(rng, 24, most);
+    let image = made.table.image();
+    let longest = (0..made.table.jobs as u8).max_by_key(|&j| made.norms[j as usize]).expect("a job");
+    for plan in [vec![longest], made.plan(rng, 2 * most)] {
+        run_of(rng, &image, &plan, &first_run(&made.table, &made.norms, &plan))?;
     }
     Ok(())
 }
 
+/// A run on output areas at, beyond and below its length.
+fn run_of(rng: &mut Rng, image: &[u8], plan: &[u8], run: &[u16]) -> Outcome {
+    let wanted = bytes_of(run);
+    let need = wanted.len();
+    for len in [need, need + 1, need + rng.below(50), need.saturating_sub(1), need.saturating_sub(2), need / 2, 0] {
+        let mut out = Area::new(rng, len);
+        let expected = if len < need { -10 } else { need as i32 };
+        ensure_eq!(shortest_run(image, plan, out.bytes()), expected, "run of {plan:?} into {len} bytes");
+        let used = expected.max(0) as usize;
+        ensure_eq!(out.first(used), &wanted[..used], "run of {plan:?}");
+        ensure!(out.kept_beyond(used), "bytes beyond the output have changed");
+    }
+    Ok(())
+}
+
+/// The run is the same, whatever the order of the rules and however often they are written.
+fn rules_in_another_order(rng: &mut Rng) -> Outcome {
+    let made = match rng.below(3) {
+        0 => Made::new(*rng.pick(&SHAPES), rng),
+        1 => nearly_repeated(rng),
+        _ => tied(rng, 24, 512),
+    };
+    let plan = made.plan(rng, 4096);
+    let run = written_run(&made.table, &plan)?;
+    for _ in 0..5 {
+        let mut other = made.table.clone();
+        if rng.once_in(2) {
+            write_again(rng, &mut other);
+        }
+        rng.shuffle(&mut other.rules);
+        ensure_eq!(written_run(&other, &plan)?, run, "run of {plan:?} with the rules in another order");
+    }
+    Ok(())
+}
+
+/// The bytes of a run over the image that the library writes.
+fn written_run(table: &Table, plan: &[u8]) -> Result<Vec<u8>, String> {
+    let (mut image, mut run) = (vec![0; IMAGE_MAX], vec![0; RUN_MAX]);
+    let len = write_image(table.jobs as u32, &table.places(), &mut image);
+    ensure!(len > 0, "an image is refused: {len}");
+    let used = shortest_run(&image[..len as usize], plan, &mut run);
+    ensure!(used >= 0, "the run of {plan:?} is refused: {used}");
+    run.truncate(used as usize);
+    Ok(run)
+}
+
 fn long_plans(rng: &mut Rng) -> Outcome {
-    let made = Made::new(*rng.pick(&SHAPES), rng);
+    let made = if rng.once_in(2) { Made::new(*rng.pick(&SHAPES), rng) } else { tied(rng, 24, 512) };
     let image = made.table.image();
     let plan = made.plan_of_norm(rng, 4096);
     ensure_eq!(plan_norm(&image, &plan), 4096, "a plan of norm 4,096");
+    run_of(rng, &image, &plan, &first_run(&made.table, &made.norms, &plan))?;
     let mut out = vec![0; 8200];
-    ensure_eq!(shortest_run(&image, &plan, &mut out), 8192, "its run");
-    ensure_eq!(shortest_run(&image, &plan, &mut out[..8191]), -10, "its run into 8,191 bytes");
     let longer = [&plan[..], &[rng.below(made.table.jobs) as u8]].concat();
     ensure_eq!(plan_norm(&image, &longer), -9, "one job more");
     ensure_eq!(nth_move(&image, &longer, 0, &mut out), -9, "a move of it");

@@ -1,0 +1,2 @@
+-- The rules by which first shortest runs go.
+pub mod Choices

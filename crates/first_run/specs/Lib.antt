@@ -1,0 +1,2 @@
+-- The first shortest run of a plan.
+pub mod FirstRun

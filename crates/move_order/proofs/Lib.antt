@@ -1,0 +1,3 @@
+-- Laws of rows of moves, two bytes each.
+pub mod FrontOrder
+pub mod RowsAsNumbers

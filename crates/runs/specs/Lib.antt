@@ -1,2 +1,0 @@
--- Shortest runs.
-pub mod Runs
