@@ -1,17 +1,13 @@
 -- Jobs by rising norm: those passed are known, and so is each whose norm is lower than that of the next one. Assumes nothing.
-use mathlib.Core.Path.{_≡_, refl, sym, ap, _∙_, subst}
+use mathlib.Core.Path.{_≡_, sym, ap, _∙_, subst}
 use mathlib.Core.List.{List}
-use mathlib.Core.Logic.{⊎-elim}
-use Prim.Native.Nat.{ℕ, suc, _+_, _≤_, _<_}
+use Prim.Native.Nat.{ℕ, _+_, _≤_, _<_}
 use native.Mathlib.Omega.{arith}
-use lib.Dec.{ltb}
 use lib.ListN.{length, getD, take, set, length-set}
 use lib.Seq.{getD-set-same, getD-set-other}
 use borrow.Author.Count.{below-more}
-use borrow.Author.Tests.{ltb-true, ltb-false}
-use Rattle.bpa.proofs.Basics.Cases.{by-test}
 use Rattle.bpa.proofs.Basics.Order.{less-precedes, precedes-distinct}
-use Rattle.rules.specs.Places.{rule-at, rule-count, table-of}
+use Rattle.rules.specs.Places.{table-of}
 use Rattle.norm.specs.NormArrays.{GoodNorms}
 use Rattle.order.specs.Order.{ordered}
 use Rattle.order.proofs.OrderedJobs.{place-below, place-complete, place-rising, place-earlier}

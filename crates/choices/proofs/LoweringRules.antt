@@ -2,10 +2,13 @@
 use mathlib.Core.Path.{_≡_, sym, ap, _∙_, subst}
 use mathlib.Core.List.{List, _∷_}
 use Prim.Native.Nat.{ℕ, suc, _<_}
+use native.Mathlib.Omega.{arith}
 use lib.ListN.{length, getD}
 use Rattle.bpa.specs.Plans.{Rule, over, HasRule}
 use Rattle.bpa.specs.Norms.{sum-of, norms, norm}
 use Rattle.bpa.specs.Method.{expand}
+use Rattle.bpa.proofs.Basics.Plans.{norm-zero}
+use Rattle.area.specs.Numbers.{low-first, all-low-first}
 use Rattle.rules.specs.Places.{rule-at, rule-count, table-of}
 use Rattle.rules.proofs.ListLaws.{rule-of, place-of-rule, good-rule}
 use Rattle.norm.specs.NormArrays.{GoodNorms}
@@ -59,3 +62,12 @@ module _ (n : ℕ) (rs ns : List ℕ) (g : GoodNorms n rs ns) where
   run-by-length i h =
       ap suc (first-run-length (table-of n rs) (g .good) (rule-at rs i .after) (good-rule n rs (g .list) i h .after)
       ∙ sym (sum-agree ns (norms (table-of n rs)) (g .exact .at) (rule-at rs i .after)))
+
+  -- the run of a job of norm 1 is the move of a rule
+  pub only-move : (i : ℕ) → Lowers rs ns (rule-at rs i .job) i → getD ns (rule-at rs i .job) 0 ≡ 1 → all-low-first (run-by n rs i) ≡ low-first (rule-at rs i .move)
+  unfolding run-by over table-of expand all-low-first low-first
+  only-move i low e =
+      let t = table-of n rs in
+      let zero : sum-of (norms t) (rule-at rs i .after) ≡ 0 = omega (arith, low .falls, sum-agree ns (norms t) (g .exact .at) (rule-at rs i .after)) in
+      let none = norm-zero t (norms t) (g .good) (rule-at rs i .after) (good-rule n rs (g .list) i (low .place) .after) zero in
+      ap (λ (w : List ℕ). all-low-first (rule-at rs i .move ∷ expand (run-of t) w)) none

@@ -28,7 +28,7 @@ pub record Least (rs ns : List ℕ) (j from i : ℕ) : Type 0 where
   pub after : from ≤ i
   pub least : (k : ℕ) → from ≤ k → Lowers rs ns j k → rule-at rs i .move ≤ rule-at rs k .move
 
--- a rule may stand before the one that a chain begins with: that is none, or its move is not lesser
+-- a rule may come to stand before the one that a chain begins with so far: there is none, or that one's move is not lesser
 abbrev pub NotLater : (rules : List ℕ) → (i first : ℕ) → Type 0
 NotLater rs i f = f < rule-count rs → rule-at rs i .move ≤ rule-at rs f .move
 

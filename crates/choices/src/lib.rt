@@ -31,7 +31,7 @@ fn lowers(jobs: usize, rules: &[u8], norms: &[u16; 24], bound: u32, i: usize) ->
     norm == 1 + norm::capped_sum(norms, rule_after(rules, i))
 }
 
-// Whether a rule may stand before the one that a chain begins with: there is none yet, or its move is not the lesser one.
+// Whether a rule may come to stand before the one that a chain begins with so far: there is none, or that one's move is not lesser.
 fn not_later(rules: &[u8], i: usize, first: usize) -> bool
     requires { ⌜ i < rule-count (now rules) ⌝ }
     ensures { λ r. ⌜ Decides r (NotLater (now (rules .entry)) i first) ⌝ }
@@ -74,9 +74,9 @@ fn least_chains(
     let mut i = total;
     while 0 < i {
         i -= 1;
-        let j = rule_job(rules, i);
-        let old = wide(first[j]);
         if lowers(jobs, rules, norms, bound, i) {
+            let j = rule_job(rules, i);
+            let old = wide(first[j]);
             if not_later(rules, i, old) {
                 next[i] = follower(rules, i, old) as u8;
                 first[j] = i as u8;
@@ -190,7 +190,12 @@ fn keep_row(
     ensures { λ _. ⌜ Keeps jobs (now (rules .entry)) (now (norms .entry)) (rule-at (now (rules .entry)) rule .job) rule (now (rows .entry)) (now (rows .exit)) ⌝ }
 {
     let job = rule_job(rules, rule);
-    if 85 < norm_of(norms, job) {
+    let norm = norm_of(norms, job);
+    if 85 < norm {
+        return;
+    }
+    if norm == 1 {
+        area::put_number(rule_move(rules, rule) as usize, 170 * job, rows);
         return;
     }
     let mut made = [0u8; 170];

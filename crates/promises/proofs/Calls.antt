@@ -3,13 +3,13 @@ use mathlib.Core.Path.{_≡_, refl, sym, ap, subst, _∙_}
 use mathlib.Core.Bool.{true}
 use mathlib.Core.List.{List, [], _∷_, _++_, cons≢nil}
 use mathlib.Core.Logic.{_↔_}
-use Prim.Native.Nat.{ℕ, suc, _*_, _-_, _≤_, _<_}
+use Prim.Native.Nat.{ℕ, suc, _-_, _≤_, _<_}
 use native.Mathlib.Omega.{arith}
 use lib.IntN.{pos}
 use lib.ListN.{length, getD, take, drop}
-use Rattle.area.specs.Numbers.{number-at, low-first, all-low-first, numbers-in}
-use Rattle.area.proofs.Numbers.{number-there, all-length, numbers-back}
-use Rattle.bpa.specs.Plans.{Step, Runs, moves}
+use Rattle.area.specs.Numbers.{number-at, low-first}
+use Rattle.area.proofs.Numbers.{number-there}
+use Rattle.bpa.specs.Plans.{Step, moves}
 use Rattle.bpa.specs.Norms.{norms, norm, Fewest}
 use Rattle.bpa.specs.Bisimilar.{Bisimilar, Form}
 use Rattle.bpa.specs.Method.{same, prime-form}
@@ -23,8 +23,8 @@ use Rattle.answer.specs.Refusals.{space-refusal}
 use Rattle.answer.specs.Answer.{one-if, Writes, with-space}
 use Rattle.answer.proofs.RefusalChains.{neither, both-pass}
 use Rattle.answer.proofs.Results.{result-is, one-yes, one-no, written-result, result-written}
-use Rattle.refusal.specs.Refusals.{plan-refusal, plans-refusal, Accepted, AcceptedPlan}
-use Rattle.refusal.proofs.PlanRefusals.{accepted-plan, accepted-plans, job-passed}
+use Rattle.refusal.specs.Refusals.{plan-refusal, plans-refusal}
+use Rattle.refusal.proofs.PlanRefusals.{accepted-plans, job-passed}
 use Rattle.image.specs.Image.{image-refusal, image-jobs, image-places, table-in}
 use Rattle.image.specs.Writing.{write-refusal, written}
 use Rattle.image.proofs.TableBytes.{bytes-of-list, bytes-of-image}

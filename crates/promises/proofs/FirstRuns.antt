@@ -17,7 +17,7 @@ use Rattle.answer.proofs.RefusalChains.{chain, neither}
 use Rattle.answer.proofs.Results.{written-result}
 use Rattle.refusal.specs.Refusals.{jobs-refusal, sum-refusal, plan-refusal}
 use Rattle.refusal.proofs.PlanRefusals.{passed}
-use Rattle.image.specs.Image.{image-refusal, table-in}
+use Rattle.image.specs.Image.{table-in}
 use Rattle.first_run.specs.FirstRun.{First, first-run}
 use Rattle.first_run.proofs.FirstRuns as first
 use Rattle.table.specs.CallRefusals.{one-plan}

@@ -7,7 +7,7 @@ use native.Mathlib.Omega.{arith}
 use lib.ListN.{length, getD, take, drop, length-append}
 use lib.Seq.{take-all}
 use Rattle.bpa.specs.Plans.{over}
-use Rattle.bpa.specs.Norms.{sum-of, norms}
+use Rattle.bpa.specs.Norms.{sum-of}
 use Rattle.bpa.specs.Method.{expand}
 use Rattle.bpa.proofs.Basics.Plans.{sum-at, sum-end}
 use Rattle.bpa.proofs.Basics.JobsBelow.{below-at}

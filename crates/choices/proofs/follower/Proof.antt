@@ -1,5 +1,5 @@
 -- `choices::follower` meets its contract. Assumes nothing.
-use mathlib.Core.Path.{_≡_, refl}
+use mathlib.Core.Path.{refl}
 use native.Mathlib.Omega.{arith}
 use borrow.Author.Needs.{needs}
 use Rattle.choices.proofs.follower.Statement.{statement}

@@ -1,5 +1,5 @@
 -- `choices::keep_row` meets its contract. Assumes nothing.
-use mathlib.Core.Path.{_≡_, refl, sym, ap, _∙_, subst}
+use mathlib.Core.Path.{_≡_, refl, sym, ap, ap₂, _∙_, subst}
 use mathlib.Core.List.{List}
 use Prim.Native.Nat.{ℕ, _*_, _-_, _≤_, _<_}
 use native.Mathlib.Omega.{arith}
@@ -8,10 +8,10 @@ use lib.ListN.{length, getD, take}
 use Rattle.rules.specs.Places.{rule-at}
 use Rattle.rules.proofs.ListLaws.{good-rule}
 use Rattle.area.specs.Areas.{put}
-use Rattle.area.specs.Numbers.{all-low-first}
+use Rattle.area.specs.Numbers.{low-first, all-low-first}
 use Rattle.area.proofs.Numbers.{all-length}
 use Rattle.choices.specs.Choices.{run-by, short-row}
-use Rattle.choices.proofs.LoweringRules.{run-by-length}
+use Rattle.choices.proofs.LoweringRules.{run-by-length, only-move}
 use Rattle.choices.proofs.ShortRows.{row-put, row-kept, made-front}
 use Rattle.choices.proofs.keep_row.Statement.{statement}
 use Rattle.choices.proofs.keep_row.Tie as tie
@@ -37,19 +37,62 @@ norm-of-requires c κs = job-below c
 returns : tie.Need-returns
 returns c = record { row = λ l. absurd (omega (arith, norm-is (c .before), c .if1 .taken)); others = λ j d l. refl }
 
+rule-move-requires : tie.Need-rule-move-requires
+rule-move-requires c κs = c .before .before .before .before .before .before .pre .1 .0 .place
+
+cast-put-number : tie.Need-cast-put-number
+cast-put-number c = omega (arith, c .rule-move .ensures .small)
+
+mul-put-number : tie.Need-mul-put-number
+mul-put-number c = omega (arith, job-below (c .before .before .before .before))
+
+put-number-requires : tie.Need-put-number-requires
+put-number-requires c κs =
+    let n = c .before .before .before .before in
+    omega (arith, job-below (n .before), n .before .before .before .before .pre .1 .1 .size)
+
+same-length : tie.Need-same-length
+same-length c = search needs
+
+-- a job of norm 1: its run is one move
+returns-2 : tie.Need-returns-2
+unfolding low-first
+returns-2 c =
+    let w = c .before .before .put-number in
+    let m = c .before .before .before .before in
+    let t = m .before in
+    let n = t .before .before in
+    let s = n .before .before .before .before in
+    let a = s .args in
+    let rs = a .rules .now in
+    let ns = a .norms .now in
+    let rows = a .rows .now in
+    let j = rule-at rs (a .rule) .job in
+    let is = n .before .rule-job .ensures .is in
+    let one : getD ns j 0 ≡ 1 = omega (arith, norm-is n, t .if2 .taken) in
+    let alone = only-move (a .jobs) rs ns (s .pre .0) (a .rule) (s .pre .1 .0) one in
+    let put-at = w .ensures ∙ ap₂ (λ (x v : ℕ). put (170 * x) (low-first v) rows) is (m .rule-move .ensures .is) in
+    let small = subst (λ (x : ℕ). x < 24) is (job-below (n .before)) in
+    let size = s .pre .1 .1 .size in
+    let new = low-first (rule-at rs (a .rule) .move) in
+    record {
+      row = λ l. ap (λ (v : List ℕ). short-row ns v j) put-at ∙ row-put ns rows j new size small (omega arith) (omega (arith, one)) ∙ sym alone;
+      others = λ i other l. ap (λ (v : List ℕ). short-row ns v i) put-at ∙ row-kept ns rows j new size small (omega arith) i other l;
+    }
+
 slice-aggregate-make-run : tie.Need-slice-aggregate-make-run
 slice-aggregate-make-run c = search needs
 
 make-run-requires : tie.Need-make-run-requires
 make-run-requires c κs =
-    let e = c .before .before in
+    let e = c .before .before .before in
     let s = e .before .before .before .before .before in
     (s .pre .0, (s .pre .1 .0, (s .pre .1 .1, omega (arith, norm-is (e .before), e .if1 .left))))
 
 -- the run that was made
 module _ (c : tie.After-make-run) where
   abbrev tested : tie.Else1
-  tested = c .before .before .before
+  tested = c .before .before .before .before
 
   abbrev start : tie.Start
   start = tested .before .before .before .before .before
@@ -108,11 +151,11 @@ put-requires c κs =
     let d = c .before .before .before .before in
     omega (arith, new-short d, below d, start d .pre .1 .1 .size)
 
-same-length : tie.Need-same-length
-same-length c = search needs
+same-length-2 : tie.Need-same-length-2
+same-length-2 c = search needs
 
-returns-2 : tie.Need-returns-2
-returns-2 c =
+returns-3 : tie.Need-returns-3
+returns-3 c =
     let d = c .before .before .before .before .before .before .before in
     let rows = start d .args .rows .now in
     let put-at = c .before .before .put .ensures .output ∙ ap (λ (x : ℕ). put (170 * x) (new d) rows) (is-job d) in
@@ -131,6 +174,12 @@ keep-row-spec =
     rule-job-requires
     norm-of-requires
     returns
+    rule-move-requires
+    cast-put-number
+    mul-put-number
+    put-number-requires
+    same-length
+    returns-2
     slice-aggregate-make-run
     make-run-requires
     mul-put
@@ -138,5 +187,5 @@ keep-row-spec =
     part-put-start
     part-put-end
     put-requires
-    same-length
-    returns-2)
+    same-length-2
+    returns-3)

@@ -1,12 +1,12 @@
 -- `choices::least_chains` meets its contract. From the last rule to the first, the chains of the rules passed are whole. Assumes nothing.
-use mathlib.Core.Path.{_≡_, refl, sym, ap, _∙_, subst}
+use mathlib.Core.Path.{_≡_, refl, sym, _∙_, subst}
 use mathlib.Core.List.{List}
 use Prim.Native.Nat.{ℕ, suc, _-_, _≤_, _<_}
 use native.Mathlib.Omega.{arith}
-use lib.ListN.{length, getD, set, length-set}
+use lib.ListN.{length, getD, length-set}
 use borrow.Author.Needs.{needs}
 use Rattle.bpa.proofs.Basics.Cases.{never-both}
-use Rattle.rules.specs.Places.{rule-at, rule-count}
+use Rattle.rules.specs.Places.{rule-count}
 use Rattle.rules.proofs.ListLaws.{good-rule}
 use Rattle.choices.specs.Choices.{Lowers, LowersWithin, Least, NotLater, FirstLeast}
 use Rattle.choices.proofs.ChainsMade.{Begun, Linked, begun-end, begun-past, linked-past, begun-here, link}
@@ -79,11 +79,11 @@ module _ (c : tie.In-loop Inv-loop μ-loop) where
   linked = subst (Linked rs ns most next) (sym turn) (c .before .loop .inv .5)
 
 rule-job-requires : tie.Need-rule-job-requires Inv-loop μ-loop
-rule-job-requires c κs = there c
+rule-job-requires c κs = there (c .before .before)
 
 job-below : (c : tie.After-rule-job Inv-loop μ-loop) → c .rule-job .result < 24
 job-below c =
-    let t = c .before in
+    let t = c .before .before .before in
     let g = start t .pre .0 .list in
     omega (arith, c .rule-job .ensures .is, good-rule (start t .args .jobs) (rs t) g (i t) (there t) .job, g .jobs)
 
@@ -94,32 +94,30 @@ wide-requires : tie.Need-wide-requires Inv-loop μ-loop
 wide-requires c κs = search needs
 
 lowers-requires : tie.Need-lowers-requires Inv-loop μ-loop
-lowers-requires c κs =
-    let t = c .before .before in
-    (start t .pre .0, there t)
+lowers-requires c κs = (start c .pre .0, there c)
 
 -- the rule lowers the norm: the chain of its job so far
-module _ (c : tie.Then1 Inv-loop μ-loop) where
+module _ (c : tie.After-wide Inv-loop μ-loop) where
   abbrev looked : tie.In-loop Inv-loop μ-loop
   looked = c .before .before .before .before
 
   abbrev job : ℕ
-  job = c .before .before .before .rule-job .result
+  job = c .before .rule-job .result
 
   abbrev old : ℕ
-  old = c .before .before .wide .result
+  old = c .wide .result
 
   own : LowersWithin (rs looked) (ns looked) (most looked) job (i looked)
   own =
-      subst (λ (x : ℕ). LowersWithin (rs looked) (ns looked) (most looked) x (i looked)) (sym (c .before .before .before .rule-job .ensures .is))
-      (c .before .lowers .ensures .yes (c .if1 .taken))
+      subst (λ (x : ℕ). LowersWithin (rs looked) (ns looked) (most looked) x (i looked)) (sym (c .before .rule-job .ensures .is))
+      (c .before .before .before .lowers .ensures .yes (c .before .before .if1 .taken))
 
   small-job : job < 24
-  small-job = job-below (c .before .before .before)
+  small-job = job-below (c .before)
 
   begins : FirstLeast (rs looked) (ns looked) job (suc (i looked)) old
   begins =
-      subst (FirstLeast (rs looked) (ns looked) job (suc (i looked))) (sym (c .before .before .wide .ensures .is))
+      subst (FirstLeast (rs looked) (ns looked) job (suc (i looked))) (sym (c .wide .ensures .is))
       (begun looked job small-job (own .within))
 
 not-later-requires : tie.Need-not-later-requires Inv-loop μ-loop
@@ -192,13 +190,13 @@ loop-again-2 c =
     never-both (c .before .not-later .result) (c .before .not-later .ensures .no still) (c .if2 .left))
 
 loop-less-3 : tie.Need-loop-less-3 Inv-loop μ-loop
-loop-less-3 c = omega (arith, c .before .before .before .before .loop-test .taken)
+loop-less-3 c = omega (arith, c .before .before .loop-test .taken)
 
 -- it does not lower the norm
 loop-again-3 : tie.Need-loop-again-3 Inv-loop μ-loop
 loop-again-3 c =
     let d = c .before in
-    let t = d .before .before .before in
+    let t = d .before in
     kept t
     (λ j w m.
     let own = subst (λ (x : ℕ). LowersWithin (rs t) (ns t) (most t) x (i t)) (sym (m .lowers .job)) (record { within = w; lowers = m .lowers }) in
@@ -224,10 +222,10 @@ least-chains-spec =
     cast-first
     loop-holds
     sub-i
+    lowers-requires
     rule-job-requires
     array-read-wide
     wide-requires
-    lowers-requires
     not-later-requires
     follower-requires
     cast-next

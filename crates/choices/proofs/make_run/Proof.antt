@@ -7,9 +7,8 @@ use native.Mathlib.Omega.{arith}
 use borrow.Author.Needs.{needs}
 use lib.ListN.{length, getD, take, drop, replicate, length-replicate}
 use Rattle.bpa.specs.Norms.{sum-of}
-use Rattle.rules.specs.Places.{rule-at, rule-count, table-of}
+use Rattle.rules.specs.Places.{rule-at, table-of}
 use Rattle.rules.proofs.ListLaws.{good-has-place, good-rule}
-use Rattle.area.specs.Numbers.{all-low-first}
 use Rattle.first_run.specs.FirstRun.{run-of}
 use Rattle.choices.specs.Choices.{Lowers, run-by, Picks, short-row, Chosen}
 use Rattle.choices.proofs.LoweringRules.{picked}

@@ -7,7 +7,7 @@ use native.Mathlib.Omega.{arith}
 use borrow.Author.Needs.{needs}
 use lib.ListN.{length, getD, take, drop}
 use Rattle.bpa.specs.Norms.{sum-of}
-use Rattle.rules.specs.Places.{rule-at, table-of}
+use Rattle.rules.specs.Places.{table-of}
 use Rattle.first_run.specs.FirstRun.{run-of}
 use Rattle.area.specs.Numbers.{all-low-first}
 use Rattle.area.proofs.Numbers.{all-length}
