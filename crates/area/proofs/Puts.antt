@@ -23,12 +23,20 @@ module _ (i : ℕ) (new xs : List ℕ) (inside : i ≤ length xs) where
   put-behind = ap (drop (i + length new)) parts ∙ drop-at (take i xs ++ new) (drop (i + length new) xs) (i + length new) front-length
 
   -- and up to a place among them
-  pub put-into : (k : ℕ) → k ≤ length new → take (i + k) (put i new xs) ≡ take i xs ++ take k new
+  put-into : (k : ℕ) → k ≤ length new → take (i + k) (put i new xs) ≡ take i xs ++ take k new
   put-into k h =
       let room : length (take i xs) ≡ i = length-take-le i xs inside in
       let at : i + k ≡ length (take i xs) + k = omega arith in
       sym (take-take (i + k) (i + length new) (put i new xs) (omega arith)) ∙ ap (take (i + k)) put-up-to
       ∙ ap (λ (n : ℕ). take n (take i xs ++ new)) at ∙ take-append-add (take i xs) new k
+
+-- n bytes of some rows are put into an area: up to the end of the first `len` of them these are what stands there
+pub put-part-front : (rows xs : List ℕ) (start len n i : ℕ) → len ≤ n → start + n ≤ length rows → i ≤ length xs →
+    take (i + len) (put i (take n (drop start rows)) xs) ≡ take i xs ++ take len (drop start rows)
+put-part-front rows xs start len n i h l m =
+    let v = take n (drop start rows) in
+    let size : length v ≡ n = length-take-le n (drop start rows) (omega (arith, length-drop start rows)) in
+    put-into i v xs m len (omega arith) ∙ ap (λ (r : List ℕ). take i xs ++ r) (take-take len n (drop start rows) h)
 
 module _ (i : ℕ) (new xs : List ℕ) (fits : i + length new ≤ length xs) where
   inside : i ≤ length xs

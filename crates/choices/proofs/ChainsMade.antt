@@ -2,8 +2,9 @@
 -- least move from its own place on the next with its move. Assumes nothing.
 use mathlib.Core.Path.{_≡_, sym, ap, _∙_, subst}
 use mathlib.Core.List.{List}
-use mathlib.Core.Logic.{_⊎_, inl, inr, ⊎-elim}
+use mathlib.Core.Logic.{⊎-elim}
 use Prim.Native.Nat.{ℕ, suc, _≤_, _<_}
+use native.Mathlib.Nat.{eq-or-lt-of-le}
 use native.Mathlib.Omega.{arith}
 use lib.Dec.{eqb, ltb}
 use lib.ListN.{length, getD, set, replicate, getD-replicate}
@@ -21,9 +22,6 @@ Begun rs ns b a i = (j : ℕ) → j < 24 → getD ns j 0 ≤ b → FirstLeast rs
 abbrev pub Linked : (rules norms : List ℕ) → (bound : ℕ) → (places : List ℕ) → (i : ℕ) → Type 0
 Linked rs ns b a i = (j k : ℕ) → i ≤ k → getD ns j 0 ≤ b → Least rs ns j k k → NextTie rs ns j k (getD a k 0)
 
-apart : (i k : ℕ) → i ≤ k → (suc i ≤ k) ⊎ (k ≡ i)
-apart i k m = by-test (ltb i k) (λ q. inl (ltb-true i k q)) (λ q. inr (omega (arith, ltb-false i k q)))
-
 module _ (rs ns : List ℕ) where
   -- least from a position on is least from a later one on
   pub least-later : (j from to i : ℕ) → from ≤ to → to ≤ i → Least rs ns j from i → Least rs ns j to i
@@ -38,8 +36,8 @@ module _ (rs ns : List ℕ) where
         lowers = l;
         after = omega arith;
         least = λ k h low.
-            ⊎-elim (λ (u : suc i ≤ k). absurd (omega (arith, f .some k u low, ltb-false to (rule-count rs) e)))
-            (λ (u : k ≡ i). let v = ap (λ (x : ℕ). rule-at rs x .move) u in omega (arith, v)) (apart i k h);
+            ⊎-elim (λ (u : i ≡ k). let v = ap (λ (x : ℕ). rule-at rs x .move) u in omega (arith, v))
+            (λ (u : i < k). absurd (omega (arith, f .some k u low, ltb-false to (rule-count rs) e))) (eq-or-lt-of-le h);
       }))) in
       record {
         within = f .within;
@@ -49,26 +47,26 @@ module _ (rs ns : List ℕ) where
               lowers = o .lowers;
               after = omega (arith, o .after);
               least = λ k h low.
-                  ⊎-elim (λ (u : suc i ≤ k). o .least k u low)
-                  (λ (u : k ≡ i).
-                  let here = subst (Lowers rs ns j) u low in
+                  ⊎-elim
+                  (λ (u : i ≡ k).
+                  let here = subst (Lowers rs ns j) (sym u) low in
                   let same = ap (λ (x : ℕ). rule-at rs x .move) u in
                   by-test (ltb (rule-at rs i .move) (rule-at rs to .move))
                   (λ e. absurd (never (record {
                     lowers = here;
                     after = omega arith;
                     least = λ m n other.
-                        ⊎-elim (λ (w : suc i ≤ m). omega (arith, o .least m w other, ltb-true (rule-at rs i .move) (rule-at rs to .move) e))
-                        (λ (w : m ≡ i). let v = ap (λ (x : ℕ). rule-at rs x .move) w in omega (arith, v)) (apart i m n);
+                        ⊎-elim (λ (w : i ≡ m). let v = ap (λ (x : ℕ). rule-at rs x .move) w in omega (arith, v))
+                        (λ (w : i < m). omega (arith, o .least m w other, ltb-true (rule-at rs i .move) (rule-at rs to .move) e)) (eq-or-lt-of-le n);
                   })))
                   (λ e. omega (arith, same, ltb-false (rule-at rs i .move) (rule-at rs to .move) e)))
-                  (apart i k h);
+                  (λ (u : i < k). o .least k u low) (eq-or-lt-of-le h);
             };
         before = λ k m.
-            ⊎-elim (λ (u : suc i ≤ k). f .before k (least-later j i (suc i) k (omega arith) u m))
-            (λ (u : k ≡ i). absurd (never (subst (Least rs ns j i) u m))) (apart i k (m .after));
+            ⊎-elim (λ (u : i ≡ k). absurd (never (subst (Least rs ns j i) (sym u) m)))
+            (λ (u : i < k). f .before k (least-later j i (suc i) k (omega arith) u m)) (eq-or-lt-of-le (m .after));
         some = λ k h low.
-            ⊎-elim (λ (u : suc i ≤ k). f .some k u low) (λ (u : k ≡ i). alone (subst (Lowers rs ns j) u low)) (apart i k h);
+            ⊎-elim (λ (u : i ≡ k). alone (subst (Lowers rs ns j) (sym u) low)) (λ (u : i < k). f .some k u low) (eq-or-lt-of-le h);
       }
 
   module _ (bound : ℕ) where
@@ -89,7 +87,7 @@ module _ (rs ns : List ℕ) where
 
       pub linked-past : (a : List ℕ) → Linked rs ns bound a (suc i) → Linked rs ns bound a i
       linked-past a b j k m w l =
-          ⊎-elim (λ (u : suc i ≤ k). b j k u w l) (λ (u : k ≡ i). absurd (never j w (subst (λ (x : ℕ). Least rs ns j x x) u l))) (apart i k m)
+          ⊎-elim (λ (u : i ≡ k). absurd (never j w (subst (λ (x : ℕ). Least rs ns j x x) (sym u) l))) (λ (u : i < k). b j k u w l) (eq-or-lt-of-le m)
 
     -- a rule that is: the chain of its job now begins with it
     module _ (i j : ℕ) (low : Lowers rs ns j i) (old : ℕ) (f : FirstLeast rs ns j (suc i) old) (h : NotLater rs i old) where
@@ -98,11 +96,10 @@ module _ (rs ns : List ℕ) where
         lowers = low;
         after = omega arith;
         least = λ k n other.
-            ⊎-elim
-            (λ (u : suc i ≤ k).
+            ⊎-elim (λ (u : i ≡ k). let v = ap (λ (x : ℕ). rule-at rs x .move) u in omega (arith, v))
+            (λ (u : i < k).
             let t = f .some k u other in
-            omega (arith, h t, f .own t .least k u other))
-            (λ (u : k ≡ i). let v = ap (λ (x : ℕ). rule-at rs x .move) u in omega (arith, v)) (apart i k n);
+            omega (arith, h t, f .own t .least k u other)) (eq-or-lt-of-le n);
       }
 
       pub begun-here : (a : List ℕ) → Begun rs ns bound a (suc i) → length a ≡ 24 → j < 24 → Begun rs ns bound (set a j i) i
@@ -143,9 +140,9 @@ module _ (rs ns : List ℕ) where
       pub link : (a : List ℕ) (r : ℕ) → i < length a → Follows rs i old r → Linked rs ns bound a (suc i) → Linked rs ns bound (set a i r) i
       link a r l p g x k m w own =
           ⊎-elim
-          (λ (u : suc i ≤ k). subst (NextTie rs ns x k) (sym (getD-set-other a i k r 0 (λ q. absurd (omega arith)))) (g x k u w own))
-          (λ (u : k ≡ i).
-          subst (λ (n : ℕ). NextTie rs ns x n (getD (set a i r) n 0)) (sym u)
+          (λ (u : i ≡ k).
+          subst (λ (n : ℕ). NextTie rs ns x n (getD (set a i r) n 0)) u
           (subst (NextTie rs ns x i) (sym (getD-set-same a i r 0 l))
-          (subst (λ (n : ℕ). NextTie rs ns n i r) (sym (low .job) ∙ subst (λ (n : ℕ). Least rs ns x n n) u own .lowers .job) (tie r p))))
-          (apart i k m)
+          (subst (λ (n : ℕ). NextTie rs ns n i r) (sym (low .job) ∙ subst (λ (n : ℕ). Least rs ns x n n) (sym u) own .lowers .job) (tie r p))))
+          (λ (u : i < k). subst (NextTie rs ns x k) (sym (getD-set-other a i k r 0 (λ q. absurd (omega arith)))) (g x k u w own))
+          (eq-or-lt-of-le m)

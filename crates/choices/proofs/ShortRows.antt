@@ -3,6 +3,7 @@ use mathlib.Core.Path.{_≡_, sym, ap, ap₂, _∙_}
 use mathlib.Core.List.{List}
 use Prim.Native.Nat.{ℕ, _+_, _*_, _-_, _≤_, _<_}
 use native.Mathlib.Omega.{arith}
+use lib.Arith.{lt-of-le-ne}
 use lib.Dec.{ltb}
 use lib.ListN.{length, getD, take, drop, length-take, length-drop}
 use lib.Seq.{take-at, drop-drop}
@@ -30,9 +31,6 @@ made-front {bytes} {area} {made} {r} p =
     let k : r - 0 ≡ 0 + length bytes = omega (arith, p .next) in
     ap₂ take k (p .output) ∙ put-up-to 0 bytes area (omega arith)
 
-further : (a b : ℕ) → (b ≡ a → ⊥) → a ≤ b → a < b
-further a b other l = by-test (ltb a b) (λ t. ltb-true a b t) (λ f. absurd (other (omega (arith, ltb-false a b f))))
-
 -- the row of one job put anew, the others kept
 module _ (ns rows : List ℕ) (job : ℕ) (new : List ℕ) (size : length rows ≡ 4080) (h : job < 24) (few : length new ≤ 170) where
   pub row-put : length new ≡ 2 * getD ns job 0 → short-row ns (put (170 * job) new rows) job ≡ new
@@ -51,7 +49,7 @@ module _ (ns rows : List ℕ) (job : ℕ) (new : List ℕ) (size : length rows �
       ∙ ap (drop (170 * j)) (take-put (170 * job) new rows (omega arith) (170 * j + m) k)
       ∙ sym (part (170 * j) m rows))
       (λ b.
-      let past : job < j = further job j other (ltb-false j job b) in
+      let past : job < j = lt-of-le-ne (ltb-false j job b) (λ e. other (sym e)) in
       let d : (i : ℕ) × (170 * job + length new + i ≡ 170 * j) = (170 * j - (170 * job + length new), omega arith) in
       ap (take (2 * getD ns j 0))
       (ap (λ (k : ℕ). drop k (put (170 * job) new rows)) (sym (d .1))

@@ -1,7 +1,7 @@
 -- The moves of rules that are bytes are numbers of two bytes, and so are those of runs: what is read back from a run's bytes is the run. Assumes
 -- nothing.
 use mathlib.Core.Path.{_≡_, ap}
-use mathlib.Core.List.{List, List·Memᴰ, List·Memᴰ·cases-cons}
+use mathlib.Core.List.{List, List·Memᴰ·cases-cons}
 use mathlib.Core.Logic.{⊎-elim}
 use Prim.Native.Nat.{ℕ, _+_, _*_, _<_}
 use native.Mathlib.Omega.{arith}

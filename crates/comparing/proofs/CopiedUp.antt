@@ -8,7 +8,7 @@ use lib.ListN.{length, getD, take, drop, set, replicate, length-drop, length-rep
 use lib.Seq.{length-take-le, take-suc, take-take, getD-take, getD-drop}
 use Rattle.area.specs.Areas.{put}
 use Rattle.area.proofs.Parts.{part}
-use Rattle.area.proofs.Puts.{put-into, put-length, take-put}
+use Rattle.area.proofs.Puts.{put-part-front, put-length, take-put}
 use Rattle.area.proofs.PutLaws.{put-none, put-one, put-put, put-front}
 use Rattle.rows.proofs.LentRows.{lent-places, lent-slice}
 
@@ -55,10 +55,7 @@ module _ (from to len : ℕ) (area : List ℕ) (apart : from + len ≤ to) (fits
 pub copied-front : (from to len n : ℕ) (area after : List ℕ) → len ≤ n → from + n ≤ to → to + n ≤ length area → after ≡ copied from to area n →
     take (to + len) after ≡ take to area ++ take len (drop from area)
 copied-front from to len n area after l apart fits e =
-    let v = take n (drop from area) in
-    let size : length v ≡ n = long from to n area apart fits n (omega arith) in
-    ap (take (to + len)) e ∙ put-into to v area (omega arith) len (omega arith)
-    ∙ ap (λ (r : List ℕ). take to area ++ r) (take-take len n (drop from area) l)
+    ap (take (to + len)) e ∙ put-part-front area area from len n to l (omega arith) (omega arith)
 
 -- by way of an array that is filled
 pub copied-by-array : (from to n : ℕ) (area filled after : List ℕ) → from + n ≤ length area →

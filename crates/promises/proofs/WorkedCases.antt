@@ -9,7 +9,7 @@ use lib.Dec.{eqb}
 use lib.ListN.{getD}
 use borrow.Author.Tests.{eqb-true, not-true}
 use Rattle.area.specs.Numbers.{number-at, low-first}
-use Rattle.bpa.specs.Plans.{Table, all-below, job-moves, moves}
+use Rattle.bpa.specs.Plans.{Table, all-below, job-moves, moves, over}
 use Rattle.bpa.specs.Norms.{sum-of, all-known, lesser, best, one-round, rounds, norms, Good}
 use Rattle.bpa.specs.Bisimilar.{Bisimilar, Prime, All-lowest, one-more, Form}
 use Rattle.bpa.specs.Method.{precedes, lowering, lower-by, candidate, itself, expand, replace, grow, first-difference, turn}
@@ -119,22 +119,16 @@ module _ (w : Worked) where
     row-back =
         ap row (back check-plan plan-passed) ∙ plans-equal (row (listed w)) is (and-right (plan-passes w p) (equal-plans (row (listed w)) is) e)
 
+    -- and so is what holds of that row in every good table
+    row-holds : (Holds : Table → List ℕ → Type 0) → ((t : Table) → Good t (norms t) → over t p ≡ true → Holds t (row t)) →
+        (one-plan (image-of w) p ≡ 0) × Holds (read-back w) is
+    row-holds Holds h =
+        let over-table = accepted-plan (read-back w) p (check-passed check-plan plan-passed) .over-table in
+        (both-passed check-plan plan-passed, subst (Holds (read-back w)) row-back (h (read-back w) (good check-plan plan-passed) over-table))
+
   form-holds : (p f : List ℕ) → has-form w p f ≡ true → (one-plan (image-of w) p ≡ 0) × Form (read-back w) p f
   unfolding has-form
-  form-holds p f e =
-      let row : Table → List ℕ = λ t. prime-form t p in
-      let check = check-plan p row f e in
-      let k = plan-passed p row f e in
-      let over-table = accepted-plan (read-back w) p (check-passed check k) .over-table in
-      (both-passed check k, subst (Form (read-back w) p) (row-back p row f e) (form-exists (read-back w) (good check k) p over-table))
-
-  run-holds : (p run : List ℕ) → (plan-passes w p && equal-plans (first-run (listed w) p) run) ≡ true → (one-plan (image-of w) p ≡ 0) × First (read-back w) p run
-  run-holds p run e =
-      let row : Table → List ℕ = λ t. first-run t p in
-      let check = check-plan p row run e in
-      let k = plan-passed p row run e in
-      let over-table = accepted-plan (read-back w) p (check-passed check k) .over-table in
-      (both-passed check k, subst (First (read-back w) p) (row-back p row run e) (first-run-first (read-back w) (good check k) p over-table))
+  form-holds p f e = row-holds p (λ t. prime-form t p) f e (λ t. Form t p) (λ t g. form-exists t g p)
 
 form-prime : (t : Table) (j : ℕ) → Form t (j ∷ []) (j ∷ []) → Prime t j
 form-prime t j f = go (f .lowest)
@@ -164,7 +158,7 @@ case-true (are-apart w p q) e =
     (pair-accepted w p q k, λ b. never-both (same (listed w) p q) (pair-told w p q k .1 b) no)
 case-true (form-is w p f) e = form-holds w p f e
 case-true (is-prime w j) e = form-prime (read-back w) j (form-holds w (j ∷ []) (j ∷ []) e .1)
-case-true (run-is w p run) e = run-holds w p run e
+case-true (run-is w p run) e = row-holds w p (λ t. first-run t p) run e (λ t. First t p) (λ t g. first-run-first t g p)
 case-true (move-is w p n bs) e =
     let row : Table → List ℕ = λ t. move-bytes (shown t p) n in
     (both-passed w (check-plan w p row bs e) (plan-passed w p row bs e), row-back w p row bs e)

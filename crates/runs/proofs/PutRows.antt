@@ -3,17 +3,13 @@ use mathlib.Core.Path.{_≡_, ap, _∙_}
 use mathlib.Core.List.{List, _++_}
 use Prim.Native.Nat.{ℕ, _+_, _-_, _≤_}
 use native.Mathlib.Omega.{arith}
-use lib.ListN.{length, take, drop, length-drop}
-use lib.Seq.{length-take-le, take-take}
+use lib.ListN.{length, take, drop}
 use Rattle.area.specs.Areas.{put}
-use Rattle.area.proofs.Puts.{put-into}
+use Rattle.area.proofs.Puts.{put-part-front}
 
 -- n bytes are put, as the code lends them, and the row is the first `len` of them
 pub row-front : (rows out out′ : List ℕ) (start len n at : ℕ) → len ≤ n → start + n ≤ length rows → at ≤ length out →
     out′ ≡ put at (take (start + n - start) (drop start rows)) out → take (at + len) out′ ≡ take at out ++ take len (drop start rows)
 row-front rows out out′ start len n at h l m e =
     let k : start + n - start ≡ n = omega arith in
-    let v = take n (drop start rows) in
-    let size : length v ≡ n = length-take-le n (drop start rows) (omega (arith, length-drop start rows)) in
-    ap (take (at + len)) (e ∙ ap (λ (x : ℕ). put at (take x (drop start rows)) out) k) ∙ put-into at v out m len (omega arith)
-    ∙ ap (λ (r : List ℕ). take at out ++ r) (take-take len n (drop start rows) h)
+    ap (take (at + len)) (e ∙ ap (λ (x : ℕ). put at (take x (drop start rows)) out) k) ∙ put-part-front rows out start len n at h l m
