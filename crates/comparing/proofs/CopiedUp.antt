@@ -5,7 +5,7 @@ use Prim.Native.Nat.{ℕ, _+_, _≤_, _<_}
 use native.Mathlib.Numerals.{add-one}
 use native.Mathlib.Omega.{arith}
 use lib.ListN.{length, getD, take, drop, set, replicate, length-drop, length-replicate, drop-of-length-le}
-use lib.Seq.{length-take-le, take-suc, take-take, getD-take, getD-drop}
+use lib.Seq.{length-take-le, take-suc, getD-take, getD-drop}
 use Rattle.area.specs.Areas.{put}
 use Rattle.area.proofs.Parts.{part}
 use Rattle.area.proofs.Puts.{put-part-front, put-length, take-put}
