@@ -11,7 +11,7 @@ PREFIX ?= /usr/local
 DESTDIR ?=
 SECONDS ?= 300
 AGE ?= 1
-VERSION = 3.1.0
+VERSION = 3.2.0
 
 ARCHIVE ?= target/staticlib/libgindrazoma.a
 PLANLOOK ?= target/bin/planlook
@@ -28,6 +28,7 @@ STAGES  = proofs
 STAGES += images    # gindrazoma_read_image, gindrazoma_write_image
 STAGES += norms     # gindrazoma_plan_norm, gindrazoma_nth_move, gindrazoma_shortest_run
 STAGES += sameness  # gindrazoma_compare, gindrazoma_prime_form
+STAGES += alike     # gindrazoma_compare_alike, gindrazoma_prime_form_alike
 STAGES += whole     # every call of the header together
 STAGES += planlook  # the program, and what is installed
 
@@ -36,6 +37,7 @@ CHECKS_proofs   = proofs
 CHECKS_images   = $(call library-checks,images)
 CHECKS_norms    = $(call library-checks,norms)
 CHECKS_sameness = $(call library-checks,sameness)
+CHECKS_alike    = $(call library-checks,alike)
 CHECKS_whole    = symbols names c-load memory-c-load plain example
 CHECKS_planlook = samples rust-look install
 library-checks  = c-$(1) pages-c-$(1) memory-c-$(1) rust-$(1) memory-rust-$(1) wrapper-$(1)
@@ -116,8 +118,8 @@ callgrind: $(ARCHIVE)
 
 soak: $(ARCHIVE)
 	@$(CARGO) build -q --release -p outside
-	@status=0; for program in images norms sameness; do \
-		env SECONDS=$$(($(SECONDS) / 3)) $(RUST)/$$program || status=1; \
+	@status=0; for program in images norms sameness alike; do \
+		env SECONDS=$$(($(SECONDS) / 4)) $(RUST)/$$program || status=1; \
 	done; exit $$status
 
 ages: old-archive $(ARCHIVE)

@@ -10,8 +10,9 @@
  * EVERY CALL
  *  - gives back one signed number: a refusal is its number (enum gindrazoma_refusal) made negative;
  *    any other answer is 0 or more and is named at the call.
- *  - makes its checks in the order of the refusals' numbers, each one over all blocks of the image, or
- *    over the left and then the right plan, before the next. The first that fails is the answer.
+ *  - makes its checks in this order: 1 of the workspace; 2 to 7 of the image, each over all its blocks; 12 and
+ *    13 of the alike list; 8 and 9 of the plans, each of the left and then of the right one; 10 of the output.
+ *    The first that fails is the answer. A call makes only the checks of what it was given.
  *  - keeps nothing: no memory is allocated and no variable outlives the call. The same input gives the same
  *    answer and the same bytes. Any number of threads may call at once, each on areas of its own.
  *
@@ -19,13 +20,22 @@
  *  - An area is a pointer to as many bytes as its length says. Areas of any length are accepted.
  *  - A NULL pointer is allowed with length 0 only.
  *  - An area that is written to (output, workspace) overlaps no other area of the call. Areas that are
- *    only read (image, rules, plans) may coincide.
+ *    only read (image, alike list, rules, plans) may coincide.
  *  - Where one of these does not hold, what the call does is undefined, in C's sense of the word.
  *  - After a refusal the output area keeps its bytes. After an answer, its bytes beyond the answer's
  *    output keep theirs. No byte of the output is written before refusal 10 is excluded.
  *  - A workspace has GINDRAZOMA_WORKSPACE bytes or more. It may hold anything before the call and changes
  *    no answer. After refusal 1 it keeps its bytes. After every other end its first GINDRAZOMA_WORKSPACE
  *    bytes are zero, and later ones keep theirs.
+ *
+ * ALIKE LISTS
+ *  - An alike list says which moves tally alike: pairs of 4 bytes, a from-move and then a to-move, each of two
+ *    bytes with the low byte first. A from-move counts as its to-move, and two moves match if they count as the same.
+ *  - It has at most GINDRAZOMA_PAIRS_MAX pairs, in any order. No from-move stands twice or stands as a to-move, so
+ *    that one replacement is all there is; a to-move may stand often, and moves that no rule makes may stand.
+ *  - A list of length 0 is no list: the call answers as the one without a list does.
+ *  - Norms do not depend on a list. Shortest runs and the n-th move show moves as the table has them.
+ *  - Prime forms are made for one list: forms made under different lists are not to be compared.
  */
 #ifndef GINDRAZOMA_H
 #define GINDRAZOMA_H
@@ -35,15 +45,15 @@
 
 /* The version of this header, and of the archive that it belongs to. */
 #define GINDRAZOMA_VERSION_MAJOR 3
-#define GINDRAZOMA_VERSION_MINOR 1
+#define GINDRAZOMA_VERSION_MINOR 2
 #define GINDRAZOMA_VERSION_PATCH 0
-#define GINDRAZOMA_VERSION "3.1.0"
+#define GINDRAZOMA_VERSION "3.2.0"
 
 #ifdef __cplusplus
 extern "C" {
 #endif
 
-/* The reasons for which a call is refused, in checking order. An answer is one of these made negative. */
+/* The reasons for which a call is refused. An answer is one of these made negative. */
 enum gindrazoma_refusal {
     GINDRAZOMA_WORKSPACE_SHORT = 1, /* the workspace is shorter than 65,536 bytes */
     GINDRAZOMA_BAD_LENGTH = 2,      /* the image is not 1 to 4 blocks of 512 bytes; the rules are not 1 to 252 of 8 bytes */
@@ -54,7 +64,9 @@ enum gindrazoma_refusal {
     GINDRAZOMA_JOB_NORM_HIGH = 7,   /* some job has a norm above 512 */
     GINDRAZOMA_NO_SUCH_JOB = 8,     /* a plan names a job at or above the count */
     GINDRAZOMA_PLAN_NORM_HIGH = 9,  /* a plan has a norm above 4,096 */
-    GINDRAZOMA_OUTPUT_SHORT = 10    /* the output area is shorter than the output */
+    GINDRAZOMA_OUTPUT_SHORT = 10,   /* the output area is shorter than the output */
+    GINDRAZOMA_ALIKE_LENGTH = 12,   /* the alike list has more than 32 pairs, or an unfinished one at its end */
+    GINDRAZOMA_ALIKE_CLASH = 13     /* a from-move stands twice in the alike list, or stands in it as a to-move */
 };
 
 enum {
@@ -64,11 +76,13 @@ enum {
     GINDRAZOMA_AFTER_MAX = 4,        /* jobs after a move */
     GINDRAZOMA_JOB_NORM_MAX = 512,   /* norm of a job */
     GINDRAZOMA_PLAN_NORM_MAX = 4096, /* norm of a plan; its jobs are no more than that */
+    GINDRAZOMA_PAIRS_MAX = 32,       /* pairs of an alike list */
     GINDRAZOMA_IMAGE_MAX = 2048,     /* bytes of an image: what the writer writes */
     GINDRAZOMA_WORKSPACE = 65536,    /* bytes that a workspace needs */
 
     /* Lengths in bytes. Those of output are enough for every accepted input. */
     GINDRAZOMA_RULE_BYTES = 8,       /* a rule: job, the move's low byte, number of jobs after, four bytes for them, the move's high byte */
+    GINDRAZOMA_PAIR_BYTES = 4,       /* a pair of an alike list: from-move and to-move, the low byte first */
     GINDRAZOMA_BLOCK_BYTES = 512,    /* a block of an image, with places for 63 rules */
     GINDRAZOMA_RULE_LIST_MAX = 2016, /* a rule list: what the writer takes */
     GINDRAZOMA_READ_MAX = 2017,      /* what the reader writes */
@@ -147,6 +161,28 @@ int32_t gindrazoma_compare(const uint8_t *image, size_t image_len, const uint8_t
  */
 int32_t gindrazoma_prime_form(const uint8_t *image, size_t image_len, const uint8_t *plan, size_t plan_len,
                               uint8_t *out, size_t out_len, uint8_t *space, size_t space_len);
+
+/*
+ * Compares two plans over one table under an alike list.
+ *
+ * Answer: 1 if the plans are the same once the moves of all rules are replaced by the list, 0 if they are apart.
+ * Refusals: 1, 2, 3, 4, 5, 6, 7, 12, 13, 8, 9, in this order.
+ */
+int32_t gindrazoma_compare_alike(const uint8_t *image, size_t image_len, const uint8_t *alike, size_t alike_len,
+                                 const uint8_t *left, size_t left_len, const uint8_t *right, size_t right_len,
+                                 uint8_t *space, size_t space_len);
+
+/*
+ * The prime form of a plan under an alike list: the prime form over the table in which the moves of all rules are
+ * replaced by the list. Two plans over one table under one list have equal prime forms exactly if they are the same
+ * under it, and no plan that is the same under it has more jobs.
+ *
+ * Answer: the bytes written, one for each job, 0 (the empty plan) to 4,096.
+ * Refusals: 1, 2, 3, 4, 5, 6, 7, 12, 13, 8, 9, 10, in this order.
+ */
+int32_t gindrazoma_prime_form_alike(const uint8_t *image, size_t image_len, const uint8_t *alike, size_t alike_len,
+                                    const uint8_t *plan, size_t plan_len, uint8_t *out, size_t out_len,
+                                    uint8_t *space, size_t space_len);
 
 #ifdef __cplusplus
 }

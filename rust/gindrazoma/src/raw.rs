@@ -37,9 +37,11 @@ pub const RULES_MAX: usize = 252;
 pub const AFTER_MAX: usize = 4;
 pub const JOB_NORM_MAX: usize = 512;
 pub const PLAN_NORM_MAX: usize = 4096;
+pub const PAIRS_MAX: usize = 32;
 pub const IMAGE_MAX: usize = 2048;
 pub const WORKSPACE: usize = 65536;
 pub const RULE_BYTES: usize = 8;
+pub const PAIR_BYTES: usize = 4;
 pub const BLOCK_BYTES: usize = 512;
 pub const RULE_LIST_MAX: usize = 2016;
 pub const READ_MAX: usize = 2017;
@@ -55,4 +57,6 @@ calls! {
     fn nth_move(image: &[u8], plan: &[u8], index: u32, out: &mut [u8]);
     fn compare(image: &[u8], left: &[u8], right: &[u8], space: &mut [u8]);
     fn prime_form(image: &[u8], plan: &[u8], out: &mut [u8], space: &mut [u8]);
+    fn compare_alike(image: &[u8], alike: &[u8], left: &[u8], right: &[u8], space: &mut [u8]);
+    fn prime_form_alike(image: &[u8], alike: &[u8], plan: &[u8], out: &mut [u8], space: &mut [u8]);
 }

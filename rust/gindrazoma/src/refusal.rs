@@ -14,9 +14,11 @@ pub enum Refusal {
     NoSuchJob = 8,
     PlanNormHigh = 9,
     OutputShort = 10,
+    AlikeLength = 12,
+    AlikeClash = 13,
 }
 
-const ALL: [(Refusal, &str); 10] = [
+const ALL: [(Refusal, &str); 12] = [
     (Refusal::WorkspaceShort, "the workspace is shorter than 65,536 bytes"),
     (Refusal::BadLength, "the image is not 1 to 4 blocks, or the rules are not 1 to 252"),
     (Refusal::BadChecksum, "the checksum of a block is wrong"),
@@ -27,6 +29,8 @@ const ALL: [(Refusal, &str); 10] = [
     (Refusal::NoSuchJob, "a plan names a job at or above the count"),
     (Refusal::PlanNormHigh, "a plan has a norm above 4,096"),
     (Refusal::OutputShort, "the output area is shorter than the output"),
+    (Refusal::AlikeLength, "the alike list has more than 32 pairs, or an unfinished one"),
+    (Refusal::AlikeClash, "a from-move stands twice in the alike list, or stands in it as a to-move"),
 ];
 
 impl Refusal {
@@ -35,18 +39,20 @@ impl Refusal {
         self as u8
     }
 
+    /// The refusal of a number, with its words. The library gives no other number.
+    fn find(number: i32) -> &'static (Refusal, &'static str) {
+        ALL.iter().find(|(refusal, _)| i32::from(refusal.number()) == number).expect("a refusal of the header")
+    }
+
     /// An answer of the library as a result.
     pub(crate) fn check(answer: i32) -> Result<usize, Refusal> {
-        match usize::try_from(answer) {
-            Ok(result) => Ok(result),
-            Err(_) => Err(ALL[(-answer - 1) as usize].0),
-        }
+        usize::try_from(answer).map_err(|_| Refusal::find(-answer).0)
     }
 }
 
 impl fmt::Display for Refusal {
     fn fmt(&self, f: &mut fmt::Formatter<'_>) -> fmt::Result {
-        write!(f, "refused {}: {}", self.number(), ALL[self.number() as usize - 1].1)
+        write!(f, "refused {}: {}", self.number(), Refusal::find(i32::from(self.number())).1)
     }
 }
 
