@@ -2,7 +2,7 @@
 // result, or a refusal's number made negative; no call keeps anything for the next.
 ghost use Rattle.images.specs.ImageCalls.{Read, Written};
 ghost use Rattle.plans.specs.PlanCalls.{Normed, Moved, RanFirst};
-ghost use Rattle.sameness.specs.SamenessCalls.{Compared, Formed};
+ghost use Rattle.sameness.specs.SamenessCalls.{Compared, Formed, ComparedAlike, FormedAlike};
 
 // The table of an image: the job count in one byte, then the rules, 8 bytes each.
 #[no_mangle]
@@ -68,4 +68,32 @@ pub extern "C" fn gindrazoma_prime_form(
     ensures { λ r. ⌜ Formed (now (image .entry)) (now (plan .entry)) (now (out .entry)) (now (space .entry)) r (now (out .exit)) (now (space .exit)) ⌝ }
 {
     sameness::prime_form(image, plan, out, space)
+}
+
+// 1 for two plans that are the same under an alike list, 0 for two that are apart.
+#[no_mangle]
+pub extern "C" fn gindrazoma_compare_alike(
+    image: &[u8],
+    alike: &[u8],
+    left: &[u8],
+    right: &[u8],
+    space: &mut [u8],
+) -> i32
+    ensures { λ r. ⌜ ComparedAlike (now (image .entry)) (now (alike .entry)) (now (left .entry)) (now (right .entry)) (now (space .entry)) r (now (space .exit)) ⌝ }
+{
+    sameness::compare_alike(image, alike, left, right, space)
+}
+
+// The prime form of a plan under an alike list, one byte a job.
+#[no_mangle]
+pub extern "C" fn gindrazoma_prime_form_alike(
+    image: &[u8],
+    alike: &[u8],
+    plan: &[u8],
+    out: &mut [u8],
+    space: &mut [u8],
+) -> i32
+    ensures { λ r. ⌜ FormedAlike (now (image .entry)) (now (alike .entry)) (now (plan .entry)) (now (out .entry)) (now (space .entry)) r (now (out .exit)) (now (space .exit)) ⌝ }
+{
+    sameness::prime_form_alike(image, alike, plan, out, space)
 }

@@ -1,13 +1,13 @@
-// The calls with a workspace: compare two plans, and the prime form of a plan. Each works in the front of the workspace, and leaves
-// the part that may be used cleared.
+// The calls with a workspace: compare two plans, and the prime form of a plan, each with an alike list or without, which is the same with an
+// empty one. Each works in the front of the workspace, and leaves the part that may be used cleared.
 use answer::or_else;
-ghost use Rattle.sameness.specs.SamenessCalls.{Compared, Formed, Comparing, Forming};
+ghost use Rattle.sameness.specs.SamenessCalls.{Compared, Formed, ComparedAlike, FormedAlike, Comparing, Forming};
 
 // The answer of compare, worked out in the workspace. What that leaves there is gone once the workspace is cleared.
-fn compare_in(image: &[u8], left: &[u8], right: &[u8], space: &mut [u8]) -> i32
-    ensures { λ r. ⌜ Comparing (now (image .entry)) (now (left .entry)) (now (right .entry)) (now (space .entry)) r (now (space .exit)) ⌝ }
+fn compare_in(image: &[u8], alike: &[u8], left: &[u8], right: &[u8], space: &mut [u8]) -> i32
+    ensures { λ r. ⌜ Comparing (now (image .entry)) (now (alike .entry)) (now (left .entry)) (now (right .entry)) (now (space .entry)) r (now (space .exit)) ⌝ }
 {
-    let table = table::load(image);
+    let table = alike_list::load(image, alike);
     let norms = table.norms;
     let of_plans = refusal::plans_refusal(table.jobs, &norms, left, right);
     let refusal = or_else(workspace::refusal(space), or_else(table.refusal, of_plans));
@@ -24,19 +24,32 @@ fn compare_in(image: &[u8], left: &[u8], right: &[u8], space: &mut [u8]) -> i32
     ))
 }
 
+// 1 for two plans that are the same under a list, 0 for two that are apart.
+pub fn compare_alike(
+    image: &[u8],
+    alike: &[u8],
+    left: &[u8],
+    right: &[u8],
+    space: &mut [u8],
+) -> i32
+    ensures { λ r. ⌜ ComparedAlike (now (image .entry)) (now (alike .entry)) (now (left .entry)) (now (right .entry)) (now (space .entry)) r (now (space .exit)) ⌝ }
+{
+    let answer = compare_in(image, alike, left, right, space);
+    workspace::leave(answer, space)
+}
+
 // 1 for two plans that are the same, 0 for two that are apart.
 pub fn compare(image: &[u8], left: &[u8], right: &[u8], space: &mut [u8]) -> i32
     ensures { λ r. ⌜ Compared (now (image .entry)) (now (left .entry)) (now (right .entry)) (now (space .entry)) r (now (space .exit)) ⌝ }
 {
-    let answer = compare_in(image, left, right, space);
-    workspace::leave(answer, space)
+    compare_alike(image, &image[0..0], left, right, space)
 }
 
 // The prime form or the refusal, worked out in the workspace.
-fn form_in(image: &[u8], plan: &[u8], out: &mut [u8], space: &mut [u8]) -> i32
-    ensures { λ r. ⌜ Forming (now (image .entry)) (now (plan .entry)) (now (out .entry)) (now (space .entry)) r (now (out .exit)) (now (space .exit)) ⌝ }
+fn form_in(image: &[u8], alike: &[u8], plan: &[u8], out: &mut [u8], space: &mut [u8]) -> i32
+    ensures { λ r. ⌜ Forming (now (image .entry)) (now (alike .entry)) (now (plan .entry)) (now (out .entry)) (now (space .entry)) r (now (out .exit)) (now (space .exit)) ⌝ }
 {
-    let table = table::load(image);
+    let table = alike_list::load(image, alike);
     let norms = table.norms;
     let of_plan = refusal::plan_refusal(table.jobs, &norms, plan);
     let refusal = or_else(workspace::refusal(space), or_else(table.refusal, of_plan));
@@ -53,10 +66,23 @@ fn form_in(image: &[u8], plan: &[u8], out: &mut [u8], space: &mut [u8]) -> i32
     )
 }
 
-// The prime form of a plan: as many bytes as it has jobs.
+// The prime form of a plan under a list: as many bytes as it has jobs.
+pub fn prime_form_alike(
+    image: &[u8],
+    alike: &[u8],
+    plan: &[u8],
+    out: &mut [u8],
+    space: &mut [u8],
+) -> i32
+    ensures { λ r. ⌜ FormedAlike (now (image .entry)) (now (alike .entry)) (now (plan .entry)) (now (out .entry)) (now (space .entry)) r (now (out .exit)) (now (space .exit)) ⌝ }
+{
+    let answer = form_in(image, alike, plan, out, space);
+    workspace::leave(answer, space)
+}
+
+// The prime form of a plan.
 pub fn prime_form(image: &[u8], plan: &[u8], out: &mut [u8], space: &mut [u8]) -> i32
     ensures { λ r. ⌜ Formed (now (image .entry)) (now (plan .entry)) (now (out .entry)) (now (space .entry)) r (now (out .exit)) (now (space .exit)) ⌝ }
 {
-    let answer = form_in(image, plan, out, space);
-    workspace::leave(answer, space)
+    prime_form_alike(image, &image[0..0], plan, out, space)
 }

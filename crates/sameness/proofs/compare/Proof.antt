@@ -1,25 +1,23 @@
--- `sameness::compare` meets its contract. Assumes nothing.
-use mathlib.Core.Path.{_∙_}
+-- `sameness::compare` meets its contract: it is the call with an empty list. Assumes nothing.
 use borrow.Author.Needs.{needs}
 use mir.Syntax.{w32}
 use mir.ValLaws.{toZ-ofZ}
+use Rattle.sameness.proofs.NoListCalls.{compared-none}
 use Rattle.sameness.proofs.compare.Statement.{statement}
 use Rattle.sameness.proofs.compare.Tie as tie
 
 returns : tie.Need-returns
 returns c =
-    let l = c .before .before .leave in
-    let w = c .before .before .before .before .before .before .compare-in in
-    record {
-      answer = rw (toZ-ofZ w32 (l .result) (record { sfits = l .ok }) ∙ l .ensures .0 ∙ toZ-ofZ w32 (w .result) (record { sfits = w .ok })) (w .ensures .answer);
-      cleared = l .ensures .1 ∙ w .ensures .clears;
-    }
+    let w = c .before .before .compare-alike in
+    rw (toZ-ofZ w32 (w .result) (record { sfits = w .ok })) (compared-none _ _ _ _ _ _ .0 (w .ensures))
 
 pub compare-spec : {M : Type 1} → statement M
 compare-spec =
     tie.close
     (tie.spec
-    (λ c κs. search needs)  -- compare-in-requires
-    (λ c κs. search needs)  -- leave-requires
+    (λ c. search needs)  -- sub-compare-alike
+    (λ c. search needs)  -- part-compare-alike-start
+    (λ c. search needs)  -- part-compare-alike-end
+    (λ c κs. search needs)  -- compare-alike-requires
     (λ c. search needs)  -- same-length
     returns)

@@ -11,8 +11,7 @@ use mir.Syntax.{w32}
 use mir.ValLaws.{toZ-ofZ}
 use Rattle.answer.specs.Answer.{one-if, with-space}
 use Rattle.answer.proofs.Answers.{gives-refused, gives-done}
-use Rattle.image.specs.Image.{table-in}
-use Rattle.table.specs.CallRefusals.{two-plans}
+use Rattle.alike_list.specs.AlikeTables.{alike-table, two-plans-alike}
 use Rattle.table.proofs.HeldTables.{Ready, plans-chain, plans-ready}
 use Rattle.workspace.proofs.UsablePart.{front-cleared}
 use Rattle.workspace.proofs.WithSpace.{space-chain, space-passed}
@@ -25,7 +24,7 @@ module _ (c : tie.After-or-else2) where
   loaded = c .before .before .before .before .before .before .before
 
   abbrev start : tie.Start
-  start = loaded .before .before .before .before .before
+  start = loaded .before .before .before .before .before .before
 
   abbrev checked : tie.After-plans-refusal
   checked = c .before .before .before .before
@@ -33,13 +32,16 @@ module _ (c : tie.After-or-else2) where
   abbrev bs : List ℕ
   bs = start .args .image .now
 
+  abbrev ls : List ℕ
+  ls = start .args .alike .now
+
   abbrev p : List ℕ
   p = start .args .left .now
 
   abbrev q : List ℕ
   q = start .args .right .now
 
-  refusal-is : c .or-else2 .result ≡ with-space (start .args .space .now) (two-plans bs p q)
+  refusal-is : c .or-else2 .result ≡ with-space (start .args .space .now) (two-plans-alike bs ls p q)
   refusal-is =
       space-chain (start .args .space .now) (c .before .before .refusal .ensures) (c .or-else2 .ensures)
       (plans-chain (loaded .load .ensures) p q (checked .plans-refusal .ensures) (c .before .or-else .ensures))
@@ -48,7 +50,7 @@ module _ (c : tie.After-or-else2) where
     passed : (65536 ≤ length (start .args .space .now)) × (c .before .or-else .result ≡ 0)
     passed = space-passed (start .args .space .now) (c .before .before .refusal .ensures) (c .or-else2 .ensures) z
 
-    ready : let l = loaded .load .result in Ready (table-in bs) (l .jobs) (take (l .end) (l .rules)) (l .norms) p × Ready (table-in bs) (l .jobs) (take (l .end) (l .rules)) (l .norms) q
+    ready : let l = loaded .load .result in Ready (alike-table bs ls) (l .jobs) (take (l .end) (l .rules)) (l .norms) p × Ready (alike-table bs ls) (l .jobs) (take (l .end) (l .rules)) (l .norms) q
     ready = plans-ready (loaded .load .ensures) p q (checked .plans-refusal .ensures) (c .before .or-else .ensures) (passed .1)
 
 returns : tie.Need-returns

@@ -9,8 +9,7 @@ use mir.Syntax.{w32}
 use mir.ValLaws.{toZ-ofZ}
 use Rattle.answer.specs.Answer.{with-space}
 use Rattle.answer.proofs.Answers.{writes-refused, writes-done}
-use Rattle.image.specs.Image.{table-in}
-use Rattle.table.specs.CallRefusals.{one-plan}
+use Rattle.alike_list.specs.AlikeTables.{alike-table, one-plan-alike}
 use Rattle.table.proofs.HeldTables.{Ready, plan-chain, plan-ready}
 use Rattle.workspace.proofs.UsablePart.{front-cleared}
 use Rattle.workspace.proofs.WithSpace.{space-chain, space-passed}
@@ -23,7 +22,7 @@ module _ (c : tie.After-or-else2) where
   loaded = c .before .before .before .before .before .before .before
 
   abbrev start : tie.Start
-  start = loaded .before .before .before .before .before
+  start = loaded .before .before .before .before .before .before
 
   abbrev checked : tie.After-plan-refusal
   checked = c .before .before .before .before
@@ -31,10 +30,13 @@ module _ (c : tie.After-or-else2) where
   abbrev bs : List ℕ
   bs = start .args .image .now
 
+  abbrev ls : List ℕ
+  ls = start .args .alike .now
+
   abbrev p : List ℕ
   p = start .args .plan .now
 
-  refusal-is : c .or-else2 .result ≡ with-space (start .args .space .now) (one-plan bs p)
+  refusal-is : c .or-else2 .result ≡ with-space (start .args .space .now) (one-plan-alike bs ls p)
   refusal-is =
       space-chain (start .args .space .now) (c .before .before .refusal .ensures) (c .or-else2 .ensures)
       (plan-chain (loaded .load .ensures) p (checked .plan-refusal .ensures) (c .before .or-else .ensures))
@@ -43,7 +45,7 @@ module _ (c : tie.After-or-else2) where
     passed : (65536 ≤ length (start .args .space .now)) × (c .before .or-else .result ≡ 0)
     passed = space-passed (start .args .space .now) (c .before .before .refusal .ensures) (c .or-else2 .ensures) z
 
-    ready : let l = loaded .load .result in Ready (table-in bs) (l .jobs) (take (l .end) (l .rules)) (l .norms) p
+    ready : let l = loaded .load .result in Ready (alike-table bs ls) (l .jobs) (take (l .end) (l .rules)) (l .norms) p
     ready = plan-ready (loaded .load .ensures) p (checked .plan-refusal .ensures) (c .before .or-else .ensures) (passed .1)
 
 returns : tie.Need-returns

@@ -1,26 +1,24 @@
--- `sameness::prime_form` meets its contract. Assumes nothing.
-use mathlib.Core.Path.{_∙_}
+-- `sameness::prime_form` meets its contract: it is the call with an empty list. Assumes nothing.
 use borrow.Author.Needs.{needs}
 use mir.Syntax.{w32}
 use mir.ValLaws.{toZ-ofZ}
+use Rattle.sameness.proofs.NoListCalls.{formed-none}
 use Rattle.sameness.proofs.prime_form.Statement.{statement}
 use Rattle.sameness.proofs.prime_form.Tie as tie
 
 returns : tie.Need-returns
 returns c =
-    let l = c .before .before .leave in
-    let w = c .before .before .before .before .before .before .before .before .form-in in
-    record {
-      written = rw (toZ-ofZ w32 (l .result) (record { sfits = l .ok }) ∙ l .ensures .0 ∙ toZ-ofZ w32 (w .result) (record { sfits = w .ok })) (w .ensures .written);
-      cleared = l .ensures .1 ∙ w .ensures .clears;
-    }
+    let w = c .before .before .before .before .prime-form-alike in
+    rw (toZ-ofZ w32 (w .result) (record { sfits = w .ok })) (formed-none _ _ _ _ _ _ _ .0 (w .ensures))
 
 pub prime-form-spec : {M : Type 1} → statement M
 prime-form-spec =
     tie.close
     (tie.spec
-    (λ c κs. search needs)  -- form-in-requires
-    (λ c κs. search needs)  -- leave-requires
+    (λ c. search needs)  -- sub-prime-form-alike
+    (λ c. search needs)  -- part-prime-form-alike-start
+    (λ c. search needs)  -- part-prime-form-alike-end
+    (λ c κs. search needs)  -- prime-form-alike-requires
     (λ c. search needs)  -- same-length
     (λ c. search needs)  -- same-length-2
     returns)

@@ -1,0 +1,2 @@
+-- Moves that tally alike.
+pub mod Alike

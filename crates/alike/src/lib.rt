@@ -1,0 +1,1 @@
+// Moves that tally alike. No code: definitions and theorems.

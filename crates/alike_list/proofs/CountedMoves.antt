@@ -1,0 +1,127 @@
+-- What a move counts as by the two rows of a list that does not clash is what it counts as by the list. Assumes nothing.
+use mathlib.Core.Path.{_≡_, refl, sym, ap, ap₂, subst, _∙_}
+use mathlib.Core.Bool.{Bool, true, false, _||_, cond, true≢false}
+use mathlib.Core.List.{List, [], _∷_, _++_, List·Memᴰ, List·Memᴰ·cases-cons, List·Memᴰ·not-nil}
+use mathlib.Core.Logic.{⊎-elim}
+use Prim.Native.Nat.{ℕ, zero, suc, _+_, _-_, _≤_, _<_}
+use native.Mathlib.Omega.{arith}
+use lib.Dec.{eqb}
+use lib.ListN.{length, getD, take, replicate, length-append, length-map, length-replicate, List·getD-append}
+use lib.Seq.{take-length}
+use borrow.Author.Tests.{eqb-true}
+use Rattle.bpa.proofs.Basics.Cases.{by-test}
+use Rattle.alike.specs.Alike.{Pair, replace, is-from, from-twice, clashes, froms, tos}
+use Rattle.alike.proofs.ReplacedMoves.{or-none, not-from, from-pair, first-new}
+use Rattle.alike.proofs.ListClashes.{place-from}
+use Rattle.alike_list.specs.PairArrays.{filled-froms, filled-tos, stands-in, sum-at, counts-as, MoveArrays, HoldsPairs}
+use Rattle.alike_list.proofs.FilledRows.{filled-up, stands-filled}
+
+sum-append : (fs ts xs ys : List ℕ) (a : ℕ) → length fs ≡ length ts → sum-at (fs ++ xs) (ts ++ ys) a ≡ sum-at fs ts a + sum-at xs ys a
+unfolding sum-at
+sum-append [] [] xs ys a e = omega arith
+sum-append [] (t ∷ ts) xs ys a e = absurd (omega arith)
+sum-append (f ∷ fs) [] xs ys a e = absurd (omega arith)
+sum-append (f ∷ fs) (t ∷ ts) xs ys a e = let h = sum-append fs ts xs ys a (omega arith) in omega (arith, h)
+
+-- zeros add nothing
+sum-zeros : (n m w a : ℕ) → sum-at (replicate n w) (replicate m 0) a ≡ 0
+unfolding sum-at
+sum-zeros zero m w a = refl
+sum-zeros (suc n) zero w a = refl
+sum-zeros (suc n) (suc m) w a =
+    let nothing : ℕ = 0 in
+    let e : cond (eqb w a) nothing 0 ≡ nothing =
+        by-test (eqb w a) (λ b. ap (λ (x : Bool). cond x nothing 0) b) (λ b. ap (λ (x : Bool). cond x nothing 0) b) in
+    omega (arith, e, sum-zeros n m w a)
+
+-- a move that is no from-move has nothing to add, and one that stands once has its to-move
+sum-none : (ps : List Pair) (a : ℕ) → is-from ps a ≡ false → sum-at (froms ps) (tos ps) a ≡ 0
+unfolding sum-at is-from
+sum-none [] a h = refl
+sum-none (p ∷ ps) a h =
+    let (e, k) = or-none (eqb (p .from) a) (is-from ps a) h in
+    let here : cond (eqb (p .from) a) (p .to) 0 ≡ 0 = ap (λ (b : Bool). cond b (p .to) 0) e in
+    omega (arith, here, sum-none ps a k)
+
+sum-once : (qs ps : List Pair) (a : ℕ) → from-twice qs ps ≡ false → is-from ps a ≡ true → sum-at (froms ps) (tos ps) a ≡ replace ps a
+unfolding sum-at is-from from-twice replace
+sum-once qs [] a h k = absurd (true≢false (sym k))
+sum-once qs (p ∷ ps) a h k =
+    let later = or-none (is-from qs (p .from)) (from-twice (qs ++ (p ∷ [])) ps) h .1 in
+    by-test (eqb (p .from) a)
+    (λ e.
+    let none = sum-none ps a (subst (λ (x : ℕ). is-from ps x ≡ false) (eqb-true (p .from) a e) (first-new qs ps p later)) in
+    let here : cond (eqb (p .from) a) (p .to) 0 ≡ p .to = ap (λ (b : Bool). cond b (p .to) 0) e in
+    let whole : cond (eqb (p .from) a) (p .to) (replace ps a) ≡ p .to = ap (λ (b : Bool). cond b (p .to) (replace ps a)) e in
+    omega (arith, none, here, whole))
+    (λ e.
+    let rest = sum-once (qs ++ (p ∷ [])) ps a later (subst (λ (b : Bool). (b || is-from ps a) ≡ true) e k) in
+    let here : cond (eqb (p .from) a) (p .to) 0 ≡ 0 = ap (λ (b : Bool). cond b (p .to) 0) e in
+    let whole : cond (eqb (p .from) a) (p .to) (replace ps a) ≡ replace ps a = ap (λ (b : Bool). cond b (p .to) (replace ps a)) e in
+    omega (arith, rest, here, whole))
+
+-- the to-move of a pair stands in the row of to-moves
+to-place : (ps : List Pair) (p : Pair) → List·Memᴰ p ps → (k : ℕ) × (k < length ps) × (getD (tos ps) k 0 ≡ p .to)
+to-place [] p m = absurd (List·Memᴰ·not-nil m)
+to-place (q ∷ ps) p m = ⊎-elim
+    (λ (e : p ≡ q). (0, omega arith, ap (λ (x : Pair). x .to) (sym e)))
+    (λ (n : List·Memᴰ p ps). let (k, l, e) = to-place ps p n in (suc k, omega arith, e))
+    (List·Memᴰ·cases-cons m)
+
+-- the whole row of from-moves
+pub stands-whole : (ps : List Pair) → 1 ≤ length ps → (a : ℕ) → stands-in (filled-froms ps) a ≡ is-from ps a
+unfolding filled-froms filled-up
+stands-whole ps some a =
+    let whole = take-length ps in
+    ap (λ (l : List Pair). stands-in (froms l ++ replicate (32 - length ps) (getD (froms ps) 0 0)) a) (sym whole)
+    ∙ stands-filled (length ps) ps (getD (froms ps) 0 0) a (ap (λ (l : List Pair). is-from l (getD (froms ps) 0 0)) whole ∙ place-from ps 0 some)
+    ∙ ap (λ (l : List Pair). is-from l a) whole
+
+module _ (ps : List Pair) (some : 1 ≤ length ps) (few : length ps ≤ 32) (clean : clashes ps ≡ false) where
+  -- the sum is that of the list
+  sum-filled : (a : ℕ) → sum-at (filled-froms ps) (filled-tos ps) a ≡ sum-at (froms ps) (tos ps) a
+  unfolding filled-froms filled-tos
+  sum-filled a =
+      let n = 32 - length ps in
+      let w = getD (froms ps) 0 0 in
+      let both : length (froms ps) ≡ length (tos ps) = length-map ps (λ (p : Pair). p .from) ∙ sym (length-map ps (λ (p : Pair). p .to)) in
+      omega (arith, sum-append (froms ps) (tos ps) (replicate n w) (replicate n 0) a both, sum-zeros n n w a)
+
+  twice-none : from-twice [] ps ≡ false
+  unfolding clashes
+  twice-none = or-none (from-twice [] ps) _ clean .0
+
+  counted : (a : ℕ) → counts-as (filled-froms ps) (filled-tos ps) a ≡ replace ps a
+  unfolding counts-as
+  counted a =
+      ap₂ (λ (b : Bool) (n : ℕ). cond b n a) (stands-whole ps some a) (sum-filled a)
+      ∙ by-test (is-from ps a)
+      (λ e. ap (λ (b : Bool). cond b (sum-at (froms ps) (tos ps) a) a) e ∙ sum-once [] ps a twice-none e)
+      (λ e. ap (λ (b : Bool). cond b (sum-at (froms ps) (tos ps) a) a) e ∙ sym (not-from ps a e))
+
+  module _ (small : (k : ℕ) → getD (filled-tos ps) k 0 < 65536) where
+    to-small : (p : Pair) → List·Memᴰ p ps → p .to ≤ 65535
+    unfolding filled-tos
+    to-small p m =
+        let (k, l, e) = to-place ps p m in
+        let there : k < length (tos ps) = omega (arith, length-map ps (λ (x : Pair). x .to)) in
+        omega (arith, small k, List·getD-append (tos ps) (replicate (32 - length ps) 0) 0 k there, e)
+
+    sum-small : (a : ℕ) → sum-at (filled-froms ps) (filled-tos ps) a ≤ 65535
+    sum-small a =
+        by-test (is-from ps a)
+        (λ e. let (p, m, f, r) = from-pair ps a e in omega (arith, sum-filled a, sum-once [] ps a twice-none e, r, to-small p m))
+        (λ e. omega (arith, sum-filled a, sum-none ps a e))
+
+    sizes : (length (filled-froms ps) ≡ 32) × (length (filled-tos ps) ≡ 32)
+    unfolding filled-froms filled-tos
+    sizes =
+        let n = 32 - length ps in
+        let w = getD (froms ps) 0 0 in (
+          length-append (froms ps) (replicate n w) ∙ omega (arith, length-map ps (λ (p : Pair). p .from), length-replicate n w),
+          length-append (tos ps) (replicate n 0) ∙ omega (arith, length-map ps (λ (p : Pair). p .to), length-replicate {A = ℕ} n 0),
+        )
+
+    -- THE ROWS OF A LIST that 13 lets pass
+    pub rows-hold : HoldsPairs ps (filled-froms ps) (filled-tos ps)
+    rows-hold = record { arrays = record { size = sizes; small = sum-small }; counts = counted }

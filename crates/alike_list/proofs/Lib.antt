@@ -1,0 +1,10 @@
+-- Laws of alike lists as bytes.
+pub mod MoveRows
+pub mod PairLists
+pub mod FilledRows
+pub mod CountedMoves
+pub mod ReadPairs
+pub mod ListRefusals
+pub mod ReplacedPlaces
+pub mod NoList
+pub mod ListSources

@@ -1,0 +1,49 @@
+-- Rows of moves from a place on: whether a move stands in what is left, and the sum of the to-moves where it does. Assumes nothing.
+use mathlib.Core.Path.{_≡_, refl, sym, ap, _∙_}
+use mathlib.Core.Bool.{Bool, true, false, _||_, cond}
+use mathlib.Core.List.{List, [], _∷_, _++_}
+use Prim.Native.Nat.{ℕ, _+_, _≤_, _<_}
+use native.Mathlib.Numerals.{add-one}
+use lib.Dec.{eqb}
+use lib.ListN.{length, getD, drop, drop-of-length-le}
+use lib.Seq.{drop-cons}
+use borrow.Author.Tests.{eq-eqb, ne-eqb}
+use Rattle.alike_list.specs.PairArrays.{stands-in, sum-at}
+
+module _ (row : List ℕ) (k v : ℕ) where
+  stands-next : k < length row → stands-in (drop k row) v ≡ (eqb (getD row k 0) v || stands-in (drop (k + 1) row) v)
+  unfolding stands-in
+  stands-next h = rw (add-one, drop-cons row k 0)
+
+  -- what was found so far, after one more place
+  pub found-more : (found : Bool) → k < length row → getD row k 0 ≡ v →
+      (true || stands-in (drop (k + 1) row) v) ≡ (found || stands-in (drop k row) v)
+  found-more true h e = refl
+  found-more false h e = rw (stands-next h, eq-eqb (getD row k 0) v e)
+
+  pub not-found : (found : Bool) → k < length row → (getD row k 0 ≡ v → ⊥) →
+      (found || stands-in (drop (k + 1) row) v) ≡ (found || stands-in (drop k row) v)
+  not-found found h e = rw (stands-next h, ne-eqb (getD row k 0) v e)
+
+  pub found-end : (found : Bool) → length row ≤ k → (found || stands-in (drop k row) v) ≡ found
+  unfolding stands-in
+  found-end true h = refl
+  found-end false h = ap (λ (l : List ℕ). stands-in l v) (drop-of-length-le row h)
+
+module _ (fs ts : List ℕ) (k a : ℕ) (h : k < length fs) (l : k < length ts) (part : ℕ) where
+  sum-next : part ≡ cond (eqb (getD fs k 0) a) (getD ts k 0) 0 →
+      sum-at (drop k fs) (drop k ts) a ≡ part + sum-at (drop (k + 1) fs) (drop (k + 1) ts) a
+  unfolding sum-at
+  sum-next e = rw (add-one, drop-cons fs k 0 h, drop-cons ts k 0 l, e)
+
+  pub part-there : getD fs k 0 ≡ a → part ≡ getD ts k 0 →
+      sum-at (drop k fs) (drop k ts) a ≡ part + sum-at (drop (k + 1) fs) (drop (k + 1) ts) a
+  part-there e d = sum-next (d ∙ ap (λ (b : Bool). cond b (getD ts k 0) 0) (sym (eq-eqb (getD fs k 0) a e)))
+
+  pub part-none : (getD fs k 0 ≡ a → ⊥) → part ≡ 0 →
+      sum-at (drop k fs) (drop k ts) a ≡ part + sum-at (drop (k + 1) fs) (drop (k + 1) ts) a
+  part-none e d = sum-next (d ∙ ap (λ (b : Bool). cond b (getD ts k 0) 0) (sym (ne-eqb (getD fs k 0) a e)))
+
+pub sum-end : (fs ts : List ℕ) (k a : ℕ) → length fs ≤ k → sum-at (drop k fs) (drop k ts) a ≡ 0
+unfolding sum-at
+sum-end fs ts k a h = ap (λ (l : List ℕ). sum-at l (drop k ts) a) (drop-of-length-le fs h)

@@ -1,0 +1,73 @@
+-- The pairs of a list in two arrays of 32 numbers, and a place of a list of rules with another move. Assumes nothing: these are definitions.
+use mathlib.Core.Path.{_≡_}
+use mathlib.Core.Bool.{Bool, false, _||_, cond}
+use mathlib.Core.List.{List, [], _∷_, _++_}
+use Prim.Native.Nat.{ℕ, zero, suc, _+_, _*_, _-_, _/_, _%_, _≤_, _<_}
+use lib.Dec.{eqb}
+use lib.ListN.{length, getD, take, drop, replicate}
+use Rattle.area.specs.Areas.{put}
+use Rattle.rules.specs.Places.{move-in}
+use Rattle.alike.specs.Alike.{Pair, replace, from-twice, from-as-to, froms, tos}
+use Rattle.alike_list.specs.AlikeLists.{alike-pairs, alike-refusal}
+
+-- 1 to 32 whole pairs
+pub record WholePairs (list : List ℕ) (count : ℕ) : Type 0 where
+  pub size : length list ≡ 4 * count
+  pub some : 1 ≤ count
+  pub few : count ≤ 32
+
+-- the from-moves with the first one again behind them, and the to-moves with zeros behind them
+unfoldable pub filled-froms : List Pair → List ℕ
+filled-froms ps = froms ps ++ replicate (32 - length ps) (getD (froms ps) 0 0)
+
+unfoldable pub filled-tos : List Pair → List ℕ
+filled-tos ps = tos ps ++ replicate (32 - length ps) 0
+
+-- whether a number stands in a row
+unfoldable pub stands-in : (row : List ℕ) → (number : ℕ) → Bool
+stands-in [] v = false
+stands-in (x ∷ xs) v = eqb x v || stands-in xs v
+
+-- the sum of the to-moves at the places where a move stands as a from-move
+unfoldable pub sum-at : (froms tos : List ℕ) → (move : ℕ) → ℕ
+sum-at [] ts a = 0
+sum-at (f ∷ fs) [] a = 0
+sum-at (f ∷ fs) (t ∷ ts) a = cond (eqb f a) t 0 + sum-at fs ts a
+
+-- what a move counts as by two arrays
+unfoldable pub counts-as : (froms tos : List ℕ) → (move : ℕ) → ℕ
+counts-as fs ts a = cond (stands-in fs a) (sum-at fs ts a) a
+
+-- arrays by which each move counts as a move of two bytes
+pub record MoveArrays (fs ts : List ℕ) : Type 0 where
+  pub size : (length fs ≡ 32) × (length ts ≡ 32)
+  pub small : (a : ℕ) → sum-at fs ts a ≤ 65535
+
+-- THE ARRAYS OF A LIST: by them each move counts as what it counts as by the list
+pub record HoldsPairs (ps : List Pair) (fs ts : List ℕ) : Type 0 where
+  pub arrays : MoveArrays fs ts
+  pub counts : (a : ℕ) → counts-as fs ts a ≡ replace ps a
+
+-- A LIST THAT WAS READ: its refusal, and its arrays if there is none
+pub record ReadsList (list : List ℕ) (refusal : ℕ) (fs ts : List ℕ) : Type 0 where
+  pub refusal-is : refusal ≡ alike-refusal list
+  pub holds : refusal ≡ 0 → HoldsPairs (alike-pairs list) fs ts
+
+-- the from-moves of a list in a row, and whether one stands twice
+pub record ReadsFroms (ps : List Pair) (clash : Bool) (row : List ℕ) : Type 0 where
+  pub twice : clash ≡ from-twice [] ps
+  pub filled : row ≡ filled-froms ps
+
+-- its to-moves in a row, numbers of two bytes, and whether one stands as a from-move
+pub record ReadsTos (ps : List Pair) (clash : Bool) (row : List ℕ) : Type 0 where
+  pub as-from : clash ≡ from-as-to ps ps
+  pub filled : row ≡ filled-tos ps
+  pub small : (k : ℕ) → getD row k 0 < 65536
+
+-- A PLACE WITH ANOTHER MOVE, and so many places each with the move that its own counts as
+unfoldable pub with-move : (move : ℕ) → (place : List ℕ) → List ℕ
+with-move v xs = put 7 ((v / 256) ∷ []) (put 1 ((v % 256) ∷ []) xs)
+
+unfoldable pub with-moves : (counts : ℕ → ℕ) → (left : ℕ) → (places : List ℕ) → List ℕ
+with-moves f zero xs = []
+with-moves f (suc k) xs = with-move (f (move-in (take 8 xs))) (take 8 xs) ++ with-moves f k (drop 8 xs)

@@ -1,0 +1,2 @@
+-- Laws of the calls about sameness.
+pub mod NoListCalls
