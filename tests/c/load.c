@@ -8,7 +8,7 @@
 #include <stdlib.h>
 #include <string.h>
 
-enum { SPACE = 65536, OUT = 8192, TABLES = 7, CALLS = 256, THREADS = 8, STACK = 1 << 20 };
+enum { SPACE = 65536, OUT = 8192, TABLES = 7, CALLS = 512, KINDS = 9, THREADS = 8, STACK = 1 << 20 };
 
 static struct table tables[TABLES];
 static uint8_t images[TABLES][2560];
@@ -17,8 +17,8 @@ static size_t image_lens[TABLES];
 /* A call with the answer that it gave when it was alone. */
 struct call {
     int which, table;
-    uint8_t left[40], right[40];
-    size_t left_len, right_len, out_len;
+    uint8_t left[40], right[40], alike[128];
+    size_t left_len, right_len, alike_len, out_len;
     uint32_t index;
     int32_t answer;
     uint8_t out[OUT];
@@ -43,7 +43,11 @@ static int32_t make(const struct call *c, struct areas *a)
     case 3: return gindrazoma_shortest_run(image, len, c->left, c->left_len, a->out, c->out_len);
     case 4: return gindrazoma_nth_move(image, len, c->left, c->left_len, c->index, a->out, c->out_len);
     case 5: return gindrazoma_compare(image, len, c->left, c->left_len, c->right, c->right_len, a->space, SPACE + c->index);
-    default: return gindrazoma_prime_form(image, len, c->left, c->left_len, a->out, c->out_len, a->space, SPACE + c->index);
+    case 6: return gindrazoma_prime_form(image, len, c->left, c->left_len, a->out, c->out_len, a->space, SPACE + c->index);
+    case 7: return gindrazoma_compare_alike(image, len, c->alike, c->alike_len, c->left, c->left_len, c->right, c->right_len,
+                                            a->space, SPACE + c->index);
+    default: return gindrazoma_prime_form_alike(image, len, c->alike, c->alike_len, c->left, c->left_len, a->out, c->out_len,
+                                                a->space, SPACE + c->index);
     }
 }
 
@@ -55,6 +59,22 @@ static size_t random_plan(uint8_t *plan, uint32_t jobs)
     if (n > 0 && random_below(20) == 0)
         plan[n - 1] = (uint8_t)jobs;
     return n;
+}
+
+/* Moves of the tables, 'b', 'c' and thousands, count as 'a' or 'd'; some lists clash, and some have an unfinished pair. */
+static size_t random_list(uint8_t *list)
+{
+    size_t n = 4 * random_below(random_below(2) ? 2 : 33);
+    memset(list, 0, n);
+    for (size_t i = 0; i < n; i += 4) {
+        unsigned from = i < 8 ? 'b' + (unsigned)i / 4 : 1000 * (20 + (unsigned)i / 4);
+        list[i] = (uint8_t)(from % 256);
+        list[i + 1] = (uint8_t)(from / 256);
+        list[i + 2] = random_below(2) ? 'a' : 'd';
+    }
+    if (n > 0 && random_below(10) == 0)
+        list[0] = list[2];
+    return n > 0 && random_below(10) == 0 ? n - 1 : n;
 }
 
 static void prepare(void)
@@ -71,10 +91,11 @@ static void prepare(void)
         image_lens[i] = image_of(&tables[i], images[i]);
     for (int i = 0; i < CALLS; i++) {
         struct call *c = &calls[i];
-        c->which = i % 7;
+        c->which = i % KINDS;
         c->table = (int)random_below(random_below(4) ? 5 : TABLES);
         c->left_len = random_plan(c->left, tables[c->table].jobs);
         c->right_len = random_plan(c->right, tables[c->table].jobs);
+        c->alike_len = random_list(c->alike);
         c->index = random_below(8);
         c->out_len = random_below(4) ? OUT : random_below(30);
         memset(a.out, 0, OUT);
@@ -179,8 +200,9 @@ static size_t stack_of(struct call *c)
 
 static void stack_under_16_kib(void)
 {
-    static const char *const names[] = { "read_image", "write_image", "plan_norm", "shortest_run", "nth_move", "compare", "prime_form" };
-    size_t most[7] = { 0 }, none;
+    static const char *const names[KINDS] = { "read_image", "write_image", "plan_norm", "shortest_run", "nth_move", "compare",
+                                              "prime_form", "compare_alike", "prime_form_alike" };
+    size_t most[KINDS] = { 0 }, none;
     if (small_run())
         return; /* valgrind does not let a stack be looked at */
     none = stack_of(NULL);
@@ -190,7 +212,7 @@ static void stack_under_16_kib(void)
         if (used > most[calls[i].which])
             most[calls[i].which] = used;
     }
-    for (int i = 0; i < 7; i++) {
+    for (int i = 0; i < KINDS; i++) {
         printf("stack of %s: %zu bytes\n", names[i], most[i]);
         CHECK(most[i] < 16384);
     }
