@@ -1,4 +1,4 @@
-use crate::{raw, Refusal};
+use crate::{raw, Alike, Refusal};
 
 /// A job may make a move and then becomes 0 to 4 jobs.
 #[derive(Clone, Debug, PartialEq, Eq, Hash)]
@@ -130,5 +130,18 @@ impl Table {
     #[inline]
     pub fn prime_form(&self, space: &mut Workspace, plan: &[u8]) -> Result<Vec<u8>, Refusal> {
         written(raw::FORM_MAX, |out| raw::prime_form(&self.image, plan, out, &mut space.0))
+    }
+    /// Whether two plans are bisimilar once the moves of all rules are replaced by an alike list.
+    #[inline]
+    pub fn same_alike(&self, space: &mut Workspace, alike: &Alike, left: &[u8], right: &[u8]) -> Result<bool, Refusal> {
+        let answer = raw::compare_alike(&self.image, alike.bytes(), left, right, &mut space.0);
+        Refusal::check(answer).map(|answer| answer == 1)
+    }
+
+    /// The prime form of a plan under an alike list: equal for two plans under one list exactly if they are bisimilar under it.
+    /// Forms under different lists are not to be compared.
+    #[inline]
+    pub fn prime_form_alike(&self, space: &mut Workspace, alike: &Alike, plan: &[u8]) -> Result<Vec<u8>, Refusal> {
+        written(raw::FORM_MAX, |out| raw::prime_form_alike(&self.image, alike.bytes(), plan, out, &mut space.0))
     }
 }

@@ -1,4 +1,5 @@
-//! Images that are damaged: bytes changed, blocks cut off, added or exchanged, with the checksums set anew or not.
+//! Images that are damaged: bytes changed, blocks cut off, added or exchanged, with the checksums set anew or not; and damaged
+//! alike lists.
 use crate::rng::Rng;
 use crate::table::seal;
 
@@ -55,4 +56,31 @@ fn change_byte(rng: &mut Rng, image: &mut [u8]) {
         2 => rng.below(26) as u8,
         _ => rng.byte(),
     };
+}
+
+/// A list cut off, lengthened, with a move in it once more, with bytes exchanged or changed: perhaps it is accepted all the same.
+pub fn damaged_list(rng: &mut Rng, list: &[u8]) -> Vec<u8> {
+    let mut list = list.to_vec();
+    for _ in 0..rng.range(1, 2) {
+        let (moves, len) = (list.len() / 2, list.len());
+        match rng.below(7) {
+            0 => list.truncate(rng.below(len + 1)),
+            1 => {
+                let more = *rng.pick(&[1, 2, 3, 4, 8, 128]);
+                list.extend(rng.bytes(more));
+            }
+            2 => {
+                let missing = 132usize.saturating_sub(len);
+                list.extend(rng.bytes(missing));
+            }
+            3 | 4 if moves > 0 => {
+                let (from, to) = (2 * rng.below(moves), 2 * rng.below(moves));
+                list.copy_within(from..from + 2, to);
+            }
+            5 if len > 0 => list.swap(rng.below(len), rng.below(len)),
+            _ if len > 0 => list[rng.below(len)] = rng.byte(),
+            _ => {}
+        }
+    }
+    list
 }

@@ -4,6 +4,7 @@
 //! that time, from a seed of the clock; SEED=s sets the seed; SMALL=1 runs few iterations, as under valgrind;
 //! ONLY=case:iteration runs one iteration again.
 use crate::rng::Rng;
+use std::collections::{BTreeMap, BTreeSet};
 use std::env;
 use std::panic::{catch_unwind, AssertUnwindSafe};
 use std::process::ExitCode;
@@ -118,6 +119,21 @@ impl Case {
         let mut rng = Rng::of_iteration(seed, &self.name, iteration);
         catch_unwind(AssertUnwindSafe(|| (self.run)(&mut rng))).unwrap_or_else(|_| Err("a panic".to_string()))
     }
+}
+
+/// Each kind is found in 10 of 100 tables or more.
+pub fn often(all: &[&'static str], found: impl Fn(&mut Rng) -> BTreeSet<&'static str>) -> Outcome {
+    let mut rng = Rng::new(1);
+    let mut often = BTreeMap::new();
+    for _ in 0..100 {
+        for kind in found(&mut rng) {
+            *often.entry(kind).or_insert(0) += 1;
+        }
+    }
+    for kind in all {
+        ensure!(often.get(kind).is_some_and(|&tables| tables >= 10), "{kind}: in {:?} of 100 tables", often.get(kind));
+    }
+    Ok(())
 }
 
 fn number(name: &str) -> Option<u64> {

@@ -1,5 +1,6 @@
 //! What the tests over the archive are made of: tables by the definitions, a second comparer and a second way to first runs,
-//! random shapes, guarded areas.
+//! random shapes and alike lists, guarded areas.
+pub mod alike;
 pub mod area;
 pub mod damage;
 pub mod first_run;
@@ -11,5 +12,6 @@ pub mod repeated;
 pub mod rng;
 pub mod second;
 pub mod shapes;
+pub mod space;
 pub mod table;
 pub mod ties;

@@ -98,9 +98,32 @@ pub fn of_list(jobs: u32, rules: &[u8]) -> u8 {
     of_table(&table_of_places(jobs as usize, rules))
 }
 
+/// 12 and 13 of an alike list.
+pub fn of_alike(alike: &[u8]) -> u8 {
+    if alike.len() > 4 * 32 || !alike.len().is_multiple_of(4) {
+        return 12;
+    }
+    let (from, to): (Vec<usize>, Vec<usize>) = alike.chunks(4).map(|pair| (number_at(pair, 0), number_at(pair, 2))).unzip();
+    let clashes = |(i, x): (usize, &usize)| from[..i].contains(x) || to.contains(x);
+    if from.iter().enumerate().any(clashes) {
+        13
+    } else {
+        0
+    }
+}
+
 /// 2 to 9 of an image and plans over it.
 pub fn of_plans(image: &[u8], plans: &[&[u8]]) -> u8 {
+    of_plans_alike(image, &[], plans)
+}
+
+/// 2 to 7 of an image, 12 and 13 of an alike list, 8 and 9 of plans.
+pub fn of_plans_alike(image: &[u8], alike: &[u8], plans: &[&[u8]]) -> u8 {
     let refusal = of_image(image);
+    if refusal != 0 {
+        return refusal;
+    }
+    let refusal = of_alike(alike);
     if refusal != 0 {
         return refusal;
     }

@@ -120,6 +120,11 @@ impl Made {
         small.then_some(Made { table, norms, words })
     }
 
+    /// The same with moves replaced by a list of pairs: rows that stood for one another still do.
+    pub fn replaced(&self, pairs: &[(u16, u16)]) -> Made {
+        Made { table: self.table.replaced(pairs), norms: self.norms.clone(), words: self.words.clone() }
+    }
+
     pub fn norm(&self, plan: &[u8]) -> u64 {
         norm(&self.norms, plan)
     }

@@ -53,6 +53,13 @@ impl Table {
         out
     }
 
+    /// The table in which each from-move of a list of pairs counts as its to-move.
+    pub fn replaced(&self, pairs: &[(u16, u16)]) -> Table {
+        let counts_as = |action| pairs.iter().find(|pair| pair.0 == action).map_or(action, |pair| pair.1);
+        let rules = self.rules.iter().map(|r| rule(r.job, counts_as(r.action), &r.after)).collect();
+        Table { jobs: self.jobs, rules }
+    }
+
     pub fn rules_of(&self, job: u8) -> impl Iterator<Item = &Rule> {
         self.rules.iter().filter(move |r| r.job == job)
     }

@@ -3,7 +3,7 @@ use gindrazoma::raw::{nth_move, plan_norm, read_image, shortest_run, write_image
 use outside::area::Area;
 use outside::damage::damaged;
 use outside::first_run::{all_runs, bytes_of, first_run};
-use outside::harness::{Outcome, Suite};
+use outside::harness::{often, Outcome, Suite};
 use outside::refusals::of_plans;
 use outside::repeated::{kinds, nearly_repeated, write_again, KINDS};
 use outside::rng::Rng;
@@ -11,7 +11,6 @@ use outside::shapes::{Made, Shape, EDGES, SHAPES};
 use outside::table::{rule, Plan, Table};
 use outside::ties::{self, tied};
 use outside::{ensure, ensure_eq};
-use std::collections::{BTreeMap, BTreeSet};
 use std::process::ExitCode;
 
 fn main() -> ExitCode {
@@ -143,21 +142,6 @@ fn moves_of(rng: &mut Rng, table: &Table, image: &[u8], plan: &[u8]) -> Outcome 
 /// The tables with repeated rules have every kind of them often.
 fn kinds_of_repeated_rules() -> Outcome {
     often(&KINDS, |rng| kinds(&nearly_repeated(rng).table.rules))
-}
-
-/// Each kind is found in 10 of 100 tables or more.
-fn often(all: &[&'static str], found: impl Fn(&mut Rng) -> BTreeSet<&'static str>) -> Outcome {
-    let mut rng = Rng::new(1);
-    let mut often = BTreeMap::new();
-    for _ in 0..100 {
-        for kind in found(&mut rng) {
-            *often.entry(kind).or_insert(0) += 1;
-        }
-    }
-    for kind in all {
-        ensure!(often.get(kind).is_some_and(|&tables| tables >= 10), "{kind}: in {:?} of 100 tables", often.get(kind));
-    }
-    Ok(())
 }
 
 /// Moves before plans that begin like rows, and that repeated rules change nothing else.

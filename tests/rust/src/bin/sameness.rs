@@ -7,11 +7,11 @@ use outside::refusals::of_plans;
 use outside::rng::Rng;
 use outside::second::Second;
 use outside::shapes::{Made, Shape, SHAPES};
+use outside::space::{cleared, some_length, SPACE};
 use outside::table::{rule, Plan, Table};
 use outside::{ensure, ensure_eq};
 use std::process::ExitCode;
 
-const SPACE: usize = 65536;
 /// The most positions of a game that are replayed against every answer.
 const POSITIONS: usize = 200;
 
@@ -47,21 +47,6 @@ fn formed(rng: &mut Rng, image: &[u8], plan: &[u8], out: &mut Area, len: usize) 
     cleared(&space, len, answer)?;
     ensure!(out.kept_beyond(answer.max(0) as usize), "bytes beyond the output have changed");
     Ok(answer)
-}
-
-fn cleared(space: &Area, len: usize, answer: i32) -> Outcome {
-    let zeros = if answer == -1 { 0 } else { SPACE.min(len) };
-    ensure!(space.zero_up_to(zeros), "the workspace is not cleared after {answer}");
-    ensure!(space.kept_beyond(zeros), "the workspace has changed beyond what is cleared after {answer}");
-    Ok(())
-}
-
-fn some_length(rng: &mut Rng) -> usize {
-    if rng.once_in(2) {
-        SPACE
-    } else {
-        SPACE + rng.below(3000)
-    }
 }
 
 /// The prime form, made twice in other workspaces and outputs, and once with an output that is too short.
