@@ -110,7 +110,7 @@ bench: $(ARCHIVE)
 	@build/cargo/timing/bench
 
 # the norm alone: make callgrind COUNTED=norm-calls
-COUNTED = norm-calls move-calls run-calls short-run-calls compare-calls
+COUNTED = norm-calls move-calls run-calls short-run-calls compare-calls alike-calls
 
 callgrind: $(ARCHIVE)
 	@$(CARGO) build -q --profile timing -p bench $(addprefix --bin ,$(COUNTED))

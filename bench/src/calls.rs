@@ -5,7 +5,7 @@ use outside::table::put_plan;
 use std::io::{stdin, stdout, Read, Write};
 use std::process::ExitCode;
 
-/// A call on an image and a pair of plans.
+/// A call on an image, or on several areas in its place, and a pair of plans.
 pub type Call = fn(&[u8], &Pair, &mut [u8]) -> i32;
 
 /// A program's name, and its call.
@@ -52,16 +52,16 @@ const PAIRS: usize = 12;
 /// Without words: a line for each table, and one with the number of pairs and the programs. With a table's number: its image and
 /// pairs as planlook reads them. With a program and how often: its call so often on each of the pairs of such an input.
 pub fn run(programs: &[Program]) -> ExitCode {
-    run_on(programs, |_| ())
+    run_on(programs, |_| (), |image| image.to_vec())
 }
 
-/// The same with pairs that are changed before they are written.
-pub fn run_on(programs: &[Program], change: fn(&mut Input)) -> ExitCode {
+/// The same with pairs that are changed before they are written, and with what the calls get for an image.
+pub fn run_on(programs: &[Program], change: fn(&mut Input), areas: fn(&[u8]) -> Vec<u8>) -> ExitCode {
     let words: Vec<String> = std::env::args().skip(1).collect();
     let done = match &words[..] {
         [] => list(programs),
         [table] => write_input(table, change),
-        [name, times] => make_calls(programs, name, times),
+        [name, times] => make_calls(programs, name, times, areas),
         _ => None,
     };
     if done.is_none() {
@@ -86,7 +86,7 @@ fn write_input(table: &str, change: fn(&mut Input)) -> Option<()> {
     stdout().write_all(&bytes).ok()
 }
 
-fn make_calls(programs: &[Program], name: &str, times: &str) -> Option<()> {
+fn make_calls(programs: &[Program], name: &str, times: &str, areas: fn(&[u8]) -> Vec<u8>) -> Option<()> {
     let (_, call) = programs.iter().find(|program| program.0 == name)?;
     let times: usize = times.parse().ok()?;
     let mut bytes = Vec::new();
@@ -96,10 +96,11 @@ fn make_calls(programs: &[Program], name: &str, times: &str) -> Option<()> {
     while !rest.is_empty() {
         pairs.push((next_plan(&mut rest)?, next_plan(&mut rest)?));
     }
+    let image = areas(image);
     let mut space = vec![0; plain::WORKSPACE];
     let mut sum = 0;
     for _ in 0..times {
-        sum += pairs.iter().map(|pair| i64::from(call(image, pair, &mut space))).sum::<i64>();
+        sum += pairs.iter().map(|pair| i64::from(call(&image, pair, &mut space))).sum::<i64>();
     }
     println!("{name}: {times} times {} calls, answers sum to {sum}", pairs.len());
     Some(())

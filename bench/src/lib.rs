@@ -1,4 +1,5 @@
 //! Tables and plans to time, and the programs that only make calls.
+pub mod alike;
 pub mod calls;
 mod hostile;
 mod hostile_runs;

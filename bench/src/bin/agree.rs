@@ -1,10 +1,14 @@
 //! The plain programs beside the second comparer and the second way to first runs: what the benchmark measures against answers
-//! rightly, and writes moves by the definitions. The library and they on the plans that are timed, which are as they shall be.
+//! rightly, and writes moves by the definitions. The library and they on the plans and the alike lists that are timed, which are
+//! as they shall be.
+use bench::alike::{areas, ALIKE, LISTS};
 use bench::calls::{runs, COMPARE, RUN};
 use bench::inputs::{hostile_runs, single_table, Input, SINGLE_TABLES};
 use bench::pairs::{place_of, NEAR, PLAN_NORM};
+use outside::alike::{self, moves_of, PAIRS_MAX};
 use outside::first_run::{bytes_of, first_run};
 use outside::harness::{Outcome, Suite};
+use outside::refusals::of_alike;
 use outside::repeated::repeated;
 use outside::rng::Rng;
 use outside::second::Second;
@@ -119,7 +123,27 @@ fn one_table(index: usize) -> Outcome {
             ensure_eq!(call(&input.image, pair, &mut space), same, "{name} on pair {i} over {}", input.name);
         }
     }
+    under_lists(&input)?;
     same_runs(&input, 12)
+}
+
+/// The table is what its writing for each list is under it, the first list has moves of rules alone, and all answers are right.
+fn under_lists(input: &Input) -> Outcome {
+    for (i, (name, list)) in LISTS.iter().enumerate() {
+        let (raw, pairs) = list(&input.table);
+        ensure_eq!((pairs.len(), of_alike(&alike::bytes_of(&pairs))), (PAIRS_MAX, 0), "pairs and refusal of list '{name}'");
+        ensure!(raw.replaced(&pairs) == input.table, "{} under the list '{name}' is another table", input.name);
+        let moves = moves_of(&raw);
+        ensure!(i > 0 || pairs.iter().all(|pair| moves.contains(&pair.0)), "no rule makes a move of the list '{name}'");
+    }
+    let (areas, mut space) = (areas(&input.table), vec![0; plain::WORKSPACE]);
+    for (i, pair) in input.pairs.iter().enumerate() {
+        for (name, call) in ALIKE {
+            let same = i32::from(place_of(i).is_none());
+            ensure_eq!(call(&areas, pair, &mut space), same, "{name} on pair {i} over {}", input.name);
+        }
+    }
+    Ok(())
 }
 
 /// The library and the plain programs write the same runs of the left plans; so many first ones are worked out the second way, too.

@@ -1,6 +1,7 @@
 //! Times of the library beside the plain programs, all from image and plans, all clearing their workspace.
 mod timing;
 
+use bench::alike::{areas, ALIKE, LISTS};
 use bench::calls::{runs, Program, COMPARE, NORM, RUN};
 use bench::inputs::{growth, hostile, hostile_runs, light_and_full, single_table, Input, Pair, SINGLE_TABLES};
 use outside::rng::Rng;
@@ -15,6 +16,9 @@ const BOUND: f64 = 3.0;
 /// How long it may take for a run over a table made to be slow, in times of the plain program as it is written at first.
 const RUN_BOUND: f64 = 2.0;
 
+/// How long it may take under a list of 32 pairs with as many moves of rules, in times of the same without a list.
+const LIST_BOUND: f64 = 1.1;
+
 fn main() -> ExitCode {
     let Ok(seed) = std::env::var("SEED").unwrap_or("1".to_string()).parse() else {
         eprintln!("SEED is a number");
@@ -26,14 +30,20 @@ fn main() -> ExitCode {
     bench.hostile_tables();
     bench.growth();
     let most_of_runs = bench.shortest_runs(seed);
+    let [most_of_lists, slow_lists] = bench.alike_lists(seed);
     let differ = bench.differ;
     print!("\n1,000 comparisons over one table take at most {most:.2} times as long as in the fastest plain program: ");
     print!(
         "{}; shortest runs over tables made to be slow at most {most_of_runs:.2} times as in the first: ",
         judged(most, BOUND)
     );
-    println!("{}; answers that differ: {differ}", judged(most_of_runs, RUN_BOUND));
-    ExitCode::from(u8::from(most > BOUND || most_of_runs > RUN_BOUND || differ > 0))
+    print!("{}; comparisons under an alike list at most {most_of_lists:.2} times as without: ", judged(most_of_runs, RUN_BOUND));
+    println!(
+        "{}, under lists made to be slow {slow_lists:.2} times; answers that differ: {differ}",
+        judged(most_of_lists, LIST_BOUND)
+    );
+    let hold = most <= BOUND && most_of_runs <= RUN_BOUND && most_of_lists <= LIST_BOUND;
+    ExitCode::from(u8::from(!hold || differ > 0))
 }
 
 fn judged(most: f64, bound: f64) -> String {
@@ -154,16 +164,58 @@ impl Bench {
         println!("{name:<46}{}", row([library, first, fast]));
         library / first
     }
+
+    /// The worst ratios to the time without a list: under the first list, and under those made to be slow.
+    fn alike_lists(&mut self, seed: u64) -> [f64; 2] {
+        println!(
+            "\ncompare under alike lists of 32 pairs, the tables and pairs of the first section: milliseconds without a list"
+        );
+        println!(
+            "over the image whose moves are replaced, under each list over the image as it is written for it, and the ratios"
+        );
+        for ((name, _), (list, _)) in ALIKE[1..].iter().zip(LISTS) {
+            println!("  {name}: {list}");
+        }
+        let ratios: String = ALIKE[1..].iter().map(|(name, _)| format!("{:>8}", format!("{name}/"))).collect();
+        println!("{:<28}{}{ratios}", "table", names(&ALIKE));
+        let mut most: [f64; 2] = [0.0; 2];
+        for i in 0..SINGLE_TABLES.len() {
+            let [list, slow @ ..] = self.times_under_lists(single_table(seed, i, 1000));
+            most = [most[0].max(list), slow.into_iter().fold(most[1], f64::max)];
+        }
+        most
+    }
+
+    /// The ratio under each list.
+    fn times_under_lists(&mut self, mut input: Input) -> [f64; 4] {
+        input.image = areas(&input.table);
+        for pair in &input.pairs {
+            let answers = ALIKE.map(|(_, call)| call(&input.image, pair, &mut self.space));
+            self.differ += usize::from(answers != [answers[0]; 5]);
+        }
+        let times = average(15, &ALIKE, std::slice::from_ref(&input));
+        let [none, under_lists @ ..] = times;
+        let ratios = under_lists.map(|time| time / none);
+        println!("{:<28}{}{}", input.name, columns(&times, 9), columns(&ratios, 7));
+        ratios
+    }
+}
+
+fn names(programs: &[Program]) -> String {
+    programs.iter().map(|(name, _)| format!("{name:>10}")).collect()
 }
 
 fn head(programs: &[Program]) -> String {
-    let names = programs.iter().map(|(name, _)| format!("{name:>10}"));
-    names.chain(programs[1..].iter().map(|(name, _)| format!("{:>8}", format!("/{name}")))).collect()
+    let ratios: String = programs[1..].iter().map(|(name, _)| format!("{:>8}", format!("/{name}"))).collect();
+    names(programs) + &ratios
+}
+
+fn columns(numbers: &[f64], width: usize) -> String {
+    numbers.iter().map(|number| format!(" {number:>width$.2}")).collect()
 }
 
 /// The times of the library and of each plain program, and the library's ratio to each.
 fn row<const N: usize>(times: [f64; N]) -> String {
-    let columns = times.iter().map(|t| format!(" {t:>9.2}"));
-    let ratios = times[1..].iter().map(|t| format!(" {:>7.2}", times[0] / t));
-    columns.chain(ratios).collect()
+    let ratios: Vec<f64> = times[1..].iter().map(|time| times[0] / time).collect();
+    columns(&times, 9) + &columns(&ratios, 7)
 }
