@@ -105,7 +105,7 @@ pub clashes-exact : (ps : List Pair) → (clashes ps ≡ true) ↔ (FromTwice ps
 unfolding clashes
 clashes-exact ps = (
   (λ h. ⊎-elim (λ (e : from-twice [] ps ≡ true). inl (twice-exact ps .0 e)) (λ (e : from-as-to ps ps ≡ true). inr (as-to-exact ps .0 e))
-  (or-cases (from-twice [] ps) (from-as-to ps ps) h)),
+      (or-cases (from-twice [] ps) (from-as-to ps ps) h)),
   (λ c. ⊎-elim (λ (x : FromTwice ps). or-left (from-twice [] ps) (from-as-to ps ps) (twice-exact ps .1 x))
-  (λ (x : FromAsTo ps). or-right (from-twice [] ps) (from-as-to ps ps) (as-to-exact ps .1 x)) c),
+      (λ (x : FromAsTo ps). or-right (from-twice [] ps) (from-as-to ps ps) (as-to-exact ps .1 x)) c),
 )

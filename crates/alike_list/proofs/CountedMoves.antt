@@ -7,7 +7,7 @@ use Prim.Native.Nat.{ℕ, zero, suc, _+_, _-_, _≤_, _<_}
 use native.Mathlib.Omega.{arith}
 use lib.Dec.{eqb}
 use lib.ListN.{length, getD, take, replicate, length-append, length-map, length-replicate, List·getD-append}
-use lib.Seq.{take-length}
+use lib.Seq.{take-length, take-append-add}
 use borrow.Author.Tests.{eqb-true}
 use Rattle.bpa.proofs.Basics.Cases.{by-test}
 use Rattle.alike.specs.Alike.{Pair, replace, is-from, from-twice, clashes, froms, tos}
@@ -24,15 +24,16 @@ sum-append (f ∷ fs) [] xs ys a e = absurd (omega arith)
 sum-append (f ∷ fs) (t ∷ ts) xs ys a e = let h = sum-append fs ts xs ys a (omega arith) in omega (arith, h)
 
 -- zeros add nothing
-sum-zeros : (n m w a : ℕ) → sum-at (replicate n w) (replicate m 0) a ≡ 0
+sum-zeros : (fs : List ℕ) (m k a : ℕ) → sum-at fs (take m (replicate k 0)) a ≡ 0
 unfolding sum-at
-sum-zeros zero m w a = refl
-sum-zeros (suc n) zero w a = refl
-sum-zeros (suc n) (suc m) w a =
+sum-zeros [] m k a = refl
+sum-zeros (f ∷ fs) zero k a = refl
+sum-zeros (f ∷ fs) (suc m) zero a = refl
+sum-zeros (f ∷ fs) (suc m) (suc k) a =
     let nothing : ℕ = 0 in
-    let e : cond (eqb w a) nothing 0 ≡ nothing =
-        by-test (eqb w a) (λ b. ap (λ (x : Bool). cond x nothing 0) b) (λ b. ap (λ (x : Bool). cond x nothing 0) b) in
-    omega (arith, e, sum-zeros n m w a)
+    let e : cond (eqb f a) nothing 0 ≡ nothing =
+    by-test (eqb f a) (λ b. ap (λ (x : Bool). cond x nothing 0) b) (λ b. ap (λ (x : Bool). cond x nothing 0) b) in
+    omega (arith, e, sum-zeros fs m k a)
 
 -- a move that is no from-move has nothing to add, and one that stands once has its to-move
 sum-none : (ps : List Pair) (a : ℕ) → is-from ps a ≡ false → sum-at (froms ps) (tos ps) a ≡ 0
@@ -77,29 +78,44 @@ stands-whole ps some a =
     ∙ stands-filled (length ps) ps (getD (froms ps) 0 0) a (ap (λ (l : List Pair). is-from l (getD (froms ps) 0 0)) whole ∙ place-from ps 0 some)
     ∙ ap (λ (l : List Pair). is-from l a) whole
 
-module _ (ps : List Pair) (some : 1 ≤ length ps) (few : length ps ≤ 32) (clean : clashes ps ≡ false) where
+module _ (ps : List Pair) (some : 1 ≤ length ps) (clean : clashes ps ≡ false) (n : ℕ) (within : length ps ≤ n) (few : n ≤ 32) where
+  abbrev fs : List ℕ
+  fs = filled-froms ps
+
+  abbrev ts : List ℕ
+  ts = filled-tos ps
+
   -- the sum is that of the list
-  sum-filled : (a : ℕ) → sum-at (filled-froms ps) (filled-tos ps) a ≡ sum-at (froms ps) (tos ps) a
+  sum-filled : (a : ℕ) → sum-at (take n fs) (take n ts) a ≡ sum-at (froms ps) (tos ps) a
   unfolding filled-froms filled-tos
   sum-filled a =
-      let n = 32 - length ps in
+      let m = 32 - length ps in
       let w = getD (froms ps) 0 0 in
-      let both : length (froms ps) ≡ length (tos ps) = length-map ps (λ (p : Pair). p .from) ∙ sym (length-map ps (λ (p : Pair). p .to)) in
-      omega (arith, sum-append (froms ps) (tos ps) (replicate n w) (replicate n 0) a both, sum-zeros n n w a)
+      let one = length-map ps (λ (p : Pair). p .from) in
+      let other = length-map ps (λ (p : Pair). p .to) in
+      let e : n ≡ length (froms ps) + (n - length ps) = omega (arith, one) in
+      let d : n ≡ length (tos ps) + (n - length ps) = omega (arith, other) in
+      let front : take n (froms ps ++ replicate m w) ≡ froms ps ++ take (n - length ps) (replicate m w) =
+      ap (λ (j : ℕ). take j (froms ps ++ replicate m w)) e ∙ take-append-add (froms ps) (replicate m w) (n - length ps) in
+      let back : take n (tos ps ++ replicate m 0) ≡ tos ps ++ take (n - length ps) (replicate m 0) =
+      ap (λ (j : ℕ). take j (tos ps ++ replicate m 0)) d ∙ take-append-add (tos ps) (replicate m 0) (n - length ps) in
+      ap₂ (λ (x y : List ℕ). sum-at x y a) front back
+      ∙ sum-append (froms ps) (tos ps) (take (n - length ps) (replicate m w)) (take (n - length ps) (replicate m 0)) a (one ∙ sym other)
+      ∙ omega (arith, sum-zeros (take (n - length ps) (replicate m w)) (n - length ps) m a)
 
   twice-none : from-twice [] ps ≡ false
   unfolding clashes
   twice-none = or-none (from-twice [] ps) _ clean .0
 
-  counted : (a : ℕ) → counts-as (filled-froms ps) (filled-tos ps) a ≡ replace ps a
+  counted : (a : ℕ) → counts-as fs ts n a ≡ replace ps a
   unfolding counts-as
   counted a =
-      ap₂ (λ (b : Bool) (n : ℕ). cond b n a) (stands-whole ps some a) (sum-filled a)
+      ap₂ (λ (b : Bool) (v : ℕ). cond b v a) (stands-whole ps some a) (sum-filled a)
       ∙ by-test (is-from ps a)
       (λ e. ap (λ (b : Bool). cond b (sum-at (froms ps) (tos ps) a) a) e ∙ sum-once [] ps a twice-none e)
       (λ e. ap (λ (b : Bool). cond b (sum-at (froms ps) (tos ps) a) a) e ∙ sym (not-from ps a e))
 
-  module _ (small : (k : ℕ) → getD (filled-tos ps) k 0 < 65536) where
+  module _ (small : (k : ℕ) → getD ts k 0 < 65536) where
     to-small : (p : Pair) → List·Memᴰ p ps → p .to ≤ 65535
     unfolding filled-tos
     to-small p m =
@@ -107,21 +123,21 @@ module _ (ps : List Pair) (some : 1 ≤ length ps) (few : length ps ≤ 32) (cle
         let there : k < length (tos ps) = omega (arith, length-map ps (λ (x : Pair). x .to)) in
         omega (arith, small k, List·getD-append (tos ps) (replicate (32 - length ps) 0) 0 k there, e)
 
-    sum-small : (a : ℕ) → sum-at (filled-froms ps) (filled-tos ps) a ≤ 65535
+    sum-small : (a : ℕ) → sum-at (take n fs) (take n ts) a ≤ 65535
     sum-small a =
         by-test (is-from ps a)
         (λ e. let (p, m, f, r) = from-pair ps a e in omega (arith, sum-filled a, sum-once [] ps a twice-none e, r, to-small p m))
         (λ e. omega (arith, sum-filled a, sum-none ps a e))
 
-    sizes : (length (filled-froms ps) ≡ 32) × (length (filled-tos ps) ≡ 32)
+    sizes : (length fs ≡ 32) × (length ts ≡ 32)
     unfolding filled-froms filled-tos
     sizes =
-        let n = 32 - length ps in
+        let m = 32 - length ps in
         let w = getD (froms ps) 0 0 in (
-          length-append (froms ps) (replicate n w) ∙ omega (arith, length-map ps (λ (p : Pair). p .from), length-replicate n w),
-          length-append (tos ps) (replicate n 0) ∙ omega (arith, length-map ps (λ (p : Pair). p .to), length-replicate {A = ℕ} n 0),
+          length-append (froms ps) (replicate m w) ∙ omega (arith, length-map ps (λ (p : Pair). p .from), length-replicate m w),
+          length-append (tos ps) (replicate m 0) ∙ omega (arith, length-map ps (λ (p : Pair). p .to), length-replicate {A = ℕ} m 0),
         )
 
     -- THE ROWS OF A LIST that 13 lets pass
-    pub rows-hold : HoldsPairs ps (filled-froms ps) (filled-tos ps)
-    rows-hold = record { arrays = record { size = sizes; small = sum-small }; counts = counted }
+    pub rows-hold : HoldsPairs ps fs ts n
+    rows-hold = record { arrays = record { size = sizes; inside = few; small = sum-small }; counts = counted }

@@ -2,7 +2,7 @@
 use mathlib.Core.Path.{_≡_, refl, sym, ap, _∙_}
 use mathlib.Core.Bool.{Bool, true, false, _||_, cond}
 use mathlib.Core.List.{List, []}
-use Prim.Native.Nat.{ℕ, _*_, _/_, _%_, _≤_, _<_}
+use Prim.Native.Nat.{ℕ, _+_, _*_, _/_, _%_, _≤_, _<_}
 use native.Mathlib.Omega.{arith}
 use lib.Dec.{ltb}
 use lib.ListN.{length, getD}
@@ -20,20 +20,20 @@ module _ (ls : List ℕ) where
   unfolding pairs-refusal
   tested b e = ap (λ (x : Bool). cond x 12 0) e
 
-  refused-12 : (ltb 32 (pair-count ls) || ltb 0 (length ls % 4)) ≡ true → (fs ts : List ℕ) → ReadsList ls 12 fs ts
+  refused-12 : (ltb 32 (pair-count ls) || ltb 0 (length ls % 4)) ≡ true → (fs ts : List ℕ) (n : ℕ) → ReadsList ls 12 fs ts n
   unfolding alike-refusal
-  refused-12 e fs ts =
+  refused-12 e fs ts n =
       let p = tested true e in
       record {
         refusal-is = sym (refused-first (pairs-refusal ls) (clash-refusal ls) (λ z. omega (arith, p, z)) ∙ p);
         holds = λ z. absurd (omega (arith, z));
       }
 
-  pub too-many : 32 < length ls / 4 → (fs ts : List ℕ) → ReadsList ls 12 fs ts
+  pub too-many : 32 < length ls / 4 → (fs ts : List ℕ) (n : ℕ) → ReadsList ls 12 fs ts n
   unfolding pair-count
   too-many h = refused-12 (or-left (ltb 32 (length ls / 4)) (ltb 0 (length ls % 4)) (lt-ltb 32 (length ls / 4) h))
 
-  pub unfinished : ltb 0 (length ls % 4) ≡ true → (fs ts : List ℕ) → ReadsList ls 12 fs ts
+  pub unfinished : ltb 0 (length ls % 4) ≡ true → (fs ts : List ℕ) (n : ℕ) → ReadsList ls 12 fs ts n
   unfolding pair-count
   unfinished h = refused-12 (or-right (ltb 32 (length ls / 4)) (ltb 0 (length ls % 4)) h)
 
@@ -55,15 +55,16 @@ module _ (ls : List ℕ) where
       unfolding clashes
       clash-is = sym (λ i. f .twice i || t .as-from i)
 
-      pub clashing : (c || d) ≡ true → ReadsList ls 13 fs ts
-      clashing e = record { refusal-is = sym (by-clash true (clash-is ∙ e)); holds = λ z. absurd (omega (arith, z)) }
+      pub clashing : (c || d) ≡ true → (n : ℕ) → ReadsList ls 13 fs ts n
+      clashing e n = record { refusal-is = sym (by-clash true (clash-is ∙ e)); holds = λ z. absurd (omega (arith, z)) }
 
-      pub accepted-list : (c || d) ≡ false → ReadsList ls 0 fs ts
+      pub accepted-list : (c || d) ≡ false → ReadsList ls 0 fs ts ((length ls / 4 + 15) / 16 * 16)
       accepted-list e = record {
         refusal-is = sym (by-clash false (clash-is ∙ e));
         holds =
             λ z.
             let l = whole-length whole-pairs in
             rw (f .filled, t .filled)
-            (rows-hold (alike-pairs ls) (omega (arith, l, whole-pairs .some)) (omega (arith, l, few)) (clash-is ∙ e) (rw (sym (t .filled)) (t .small)));
+            (rows-hold (alike-pairs ls) (omega (arith, l, whole-pairs .some)) (clash-is ∙ e) ((length ls / 4 + 15) / 16 * 16)
+            (omega (arith, l)) (omega (arith, few)) (rw (sym (t .filled)) (t .small)));
       }

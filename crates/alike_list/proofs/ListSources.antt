@@ -52,7 +52,7 @@ module _ (ps : List Pair) (f : ℕ → ℕ) (same : (a : ℕ) → f a ≡ replac
   unfolding table-of replaced
   new-table =
       let rules : rules-in (rule-count new) new ≡ map (replaced-rule ps) (rules-in (rule-count rs) rs) =
-          ap (λ (n : ℕ). rules-in n new) count-same ∙ moves-rules f (replaced-rule ps) rule-moved (rule-count rs) jobs rs room (g .places) in
+      ap (λ (n : ℕ). rules-in n new) count-same ∙ moves-rules f (replaced-rule ps) rule-moved (rule-count rs) jobs rs room (g .places) in
       λ i. record { jobs = jobs; rules = rules i }
 
   new-norms : (ns : List ℕ) → GoodNorms jobs rs ns → GoodNorms jobs new ns
@@ -81,7 +81,7 @@ module _ {f : ℕ} {t : Table} {refusal jobs end : ℕ} {rules ns : List ℕ} (l
       nothing [] h = refl
       nothing (x ∷ xs) h = absurd (omega (arith, h))
 
-  module _ {pairs : ℕ} {fs ts : List ℕ} (p : ReadsList ls pairs fs ts) {r : ℕ} (d : r ≡ or-else refusal pairs) where
+  module _ {pairs n : ℕ} {fs ts : List ℕ} (p : ReadsList ls pairs fs ts n) {r : ℕ} (d : r ≡ or-else refusal pairs) where
     refusal-is : r ≡ or-else f (alike-refusal ls)
     refusal-is = d ∙ chain (l .refusal-is) (λ z. p .refusal-is)
 
@@ -92,11 +92,11 @@ module _ {f : ℕ} {t : Table} {refusal jobs end : ℕ} {rules ns : List ℕ} (l
       passed : (refusal ≡ 0) × (pairs ≡ 0)
       passed = neither refusal pairs (sym d ∙ z)
 
-      pub arrays-hold : HoldsPairs (alike-pairs ls) fs ts
+      pub arrays-hold : HoldsPairs (alike-pairs ls) fs ts n
       arrays-hold = p .holds (passed .1)
 
       abbrev c : ℕ → ℕ
-      c = counts-as fs ts
+      c = counts-as fs ts n
 
       abbrev rs : List ℕ
       rs = take end rules

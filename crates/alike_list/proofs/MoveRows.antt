@@ -36,13 +36,10 @@ module _ (fs ts : List ℕ) (k a : ℕ) (h : k < length fs) (l : k < length ts) 
   unfolding sum-at
   sum-next e = rw (add-one, drop-cons fs k 0 h, drop-cons ts k 0 l, e)
 
-  pub part-there : getD fs k 0 ≡ a → part ≡ getD ts k 0 →
+  -- what a place adds: its to-move, as often as the move stands there
+  pub part-next : (b : Bool) → b ≡ eqb (getD fs k 0) a → part ≡ cond b (getD ts k 0) 0 →
       sum-at (drop k fs) (drop k ts) a ≡ part + sum-at (drop (k + 1) fs) (drop (k + 1) ts) a
-  part-there e d = sum-next (d ∙ ap (λ (b : Bool). cond b (getD ts k 0) 0) (sym (eq-eqb (getD fs k 0) a e)))
-
-  pub part-none : (getD fs k 0 ≡ a → ⊥) → part ≡ 0 →
-      sum-at (drop k fs) (drop k ts) a ≡ part + sum-at (drop (k + 1) fs) (drop (k + 1) ts) a
-  part-none e d = sum-next (d ∙ ap (λ (b : Bool). cond b (getD ts k 0) 0) (sym (ne-eqb (getD fs k 0) a e)))
+  part-next b e d = sum-next (d ∙ ap (λ (x : Bool). cond x (getD ts k 0) 0) e)
 
 pub sum-end : (fs ts : List ℕ) (k a : ℕ) → length fs ≤ k → sum-at (drop k fs) (drop k ts) a ≡ 0
 unfolding sum-at

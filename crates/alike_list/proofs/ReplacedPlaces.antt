@@ -66,7 +66,7 @@ module _ (v : ℕ) where
   unfolding with-move put place-good
   with-good n xs (eight a b c d e f g h) =
       let zeros : (x : ℕ) → drop (3 + c) (a ∷ x ∷ c ∷ d ∷ e ∷ f ∷ g ∷ []) ≡ drop c (d ∷ e ∷ f ∷ g ∷ []) =
-          λ x. sym (drop-drop c 3 (a ∷ x ∷ c ∷ d ∷ e ∷ f ∷ g ∷ [])) in
+      λ x. sym (drop-drop c 3 (a ∷ x ∷ c ∷ d ∷ e ∷ f ∷ g ∷ [])) in
       by-test (leb c 4)
       (λ l. ap₂ (λ (w z : List ℕ). (ltb a n && leb c 4) && (all-below n w && all-zero z))
       (row-same c d e f g (v / 256) h (leb-true c 4 l)) (zeros (v % 256) ∙ sym (zeros b)))

@@ -34,24 +34,25 @@ sum-at [] ts a = 0
 sum-at (f ∷ fs) [] a = 0
 sum-at (f ∷ fs) (t ∷ ts) a = cond (eqb f a) t 0 + sum-at fs ts a
 
--- what a move counts as by two arrays
-unfoldable pub counts-as : (froms tos : List ℕ) → (move : ℕ) → ℕ
-counts-as fs ts a = cond (stands-in fs a) (sum-at fs ts a) a
+-- what a move counts as by two arrays, of which so many places are added up
+unfoldable pub counts-as : (froms tos : List ℕ) → (end : ℕ) → (move : ℕ) → ℕ
+counts-as fs ts n a = cond (stands-in fs a) (sum-at (take n fs) (take n ts) a) a
 
 -- arrays by which each move counts as a move of two bytes
-pub record MoveArrays (fs ts : List ℕ) : Type 0 where
+pub record MoveArrays (fs ts : List ℕ) (end : ℕ) : Type 0 where
   pub size : (length fs ≡ 32) × (length ts ≡ 32)
-  pub small : (a : ℕ) → sum-at fs ts a ≤ 65535
+  pub inside : end ≤ 32
+  pub small : (a : ℕ) → sum-at (take end fs) (take end ts) a ≤ 65535
 
 -- THE ARRAYS OF A LIST: by them each move counts as what it counts as by the list
-pub record HoldsPairs (ps : List Pair) (fs ts : List ℕ) : Type 0 where
-  pub arrays : MoveArrays fs ts
-  pub counts : (a : ℕ) → counts-as fs ts a ≡ replace ps a
+pub record HoldsPairs (ps : List Pair) (fs ts : List ℕ) (end : ℕ) : Type 0 where
+  pub arrays : MoveArrays fs ts end
+  pub counts : (a : ℕ) → counts-as fs ts end a ≡ replace ps a
 
 -- A LIST THAT WAS READ: its refusal, and its arrays if there is none
-pub record ReadsList (list : List ℕ) (refusal : ℕ) (fs ts : List ℕ) : Type 0 where
+pub record ReadsList (list : List ℕ) (refusal : ℕ) (fs ts : List ℕ) (end : ℕ) : Type 0 where
   pub refusal-is : refusal ≡ alike-refusal list
-  pub holds : refusal ≡ 0 → HoldsPairs (alike-pairs list) fs ts
+  pub holds : refusal ≡ 0 → HoldsPairs (alike-pairs list) fs ts end
 
 -- the from-moves of a list in a row, and whether one stands twice
 pub record ReadsFroms (ps : List Pair) (clash : Bool) (row : List ℕ) : Type 0 where

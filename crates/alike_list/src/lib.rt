@@ -3,11 +3,10 @@
 // the last to-move stand zeros.
 use answer::or_else;
 use area::number;
-use table::Loaded;
 ghost use mathlib.Core.Path.{_≡_};
-ghost use mathlib.Core.List.{_++_};
+ghost use mathlib.Core.List.{List, _++_};
 ghost use Prim.Native.Nat.{ℕ, _+_, _*_, _≤_, _<_};
-ghost use lib.ListN.{length, drop};
+ghost use lib.ListN.{length, take, drop};
 ghost use Rattle.area.specs.Numbers.{number-at};
 ghost use Rattle.bpa.specs.Plans.{Table};
 ghost use Rattle.answer.specs.Refusals as refusals;
@@ -17,7 +16,6 @@ ghost use Rattle.table.specs.Tables.{Loads};
 ghost use Rattle.alike.specs.Alike.{replaced};
 ghost use Rattle.alike_list.specs.AlikeLists.{alike-pairs, alike-refusal};
 ghost use Rattle.alike_list.specs.PairArrays.{WholePairs, filled-froms, stands-in, sum-at, counts-as, MoveArrays, ReadsList, ReadsFroms, ReadsTos, with-move, with-moves};
-ghost use Rattle.alike_list.specs.AlikeTables.{alike-table, listed-refusal};
 
 // The from-moves or the to-moves of a list, and whether one of them clashes.
 pub struct Moves {
@@ -25,9 +23,10 @@ pub struct Moves {
     pub row: [u16; 32],
 }
 
-// A list that was read.
+// A list that was read. Its pairs stand in the first `end` places, which are 16 or 32.
 pub struct Pairs {
     pub refusal: u8,
+    pub end: usize,
     pub froms: [u16; 32],
     pub tos: [u16; 32],
 }
@@ -56,19 +55,17 @@ fn stands(row: &[u16; 32], action: u16) -> bool
     found
 }
 
-// The to-move of a from-move, as the sum over all places: at one place only there is anything to add.
-fn to_move(froms: &[u16; 32], tos: &[u16; 32], action: u16) -> u16
-    requires { ⌜ MoveArrays (now froms) (now tos) ⌝ }
-    ensures { λ r. ⌜ r ≡ sum-at (now (froms .entry)) (now (tos .entry)) action ⌝ }
+// The to-move of a from-move, as the sum over the places up to an end: at one place only there is anything to add. Without a branch, so that
+// the places are added up at once.
+fn to_move(froms: &[u16; 32], tos: &[u16; 32], end: usize, action: u16) -> u16
+    requires { ⌜ MoveArrays (now froms) (now tos) end ⌝ }
+    ensures { λ r. ⌜ r ≡ sum-at (take end (now (froms .entry))) (take end (now (tos .entry))) action ⌝ }
 {
     let mut sum: u16 = 0;
     let mut k = 0;
-    while k < 32 {
-        let mut part: u16 = 0;
-        if froms[k] == action {
-            part = tos[k];
-        }
-        sum += part;
+    while k < end {
+        let here = (froms[k] == action) as u16;
+        sum += here * tos[k];
         k += 1;
     }
     sum
@@ -123,16 +120,18 @@ fn to_moves(list: &[u8], count: usize, froms: &[u16; 32]) -> Moves
 // The pairs of a list that is not empty, or refusal 12 or 13.
 fn read_list(list: &[u8]) -> Pairs
     requires { ⌜ 0 < length (now list) ⌝ }
-    ensures { λ r. ⌜ ReadsList (now (list .entry)) (r .refusal) (r .froms) (r .tos) ⌝ }
+    ensures { λ r. ⌜ ReadsList (now (list .entry)) (r .refusal) (r .froms) (r .tos) (r .end) ⌝ }
 {
     let count = list.len() / 4;
     if 32 < count || 0 < list.len() % 4 {
         return Pairs {
             refusal: 12,
+            end: 0,
             froms: [0; 32],
             tos: [0; 32],
         };
     }
+    let end = (count + 15) / 16 * 16;
     let from = from_moves(list, count);
     let froms = from.row;
     let to = to_moves(list, count, &froms);
@@ -143,70 +142,56 @@ fn read_list(list: &[u8]) -> Pairs
     }
     Pairs {
         refusal: refusal,
+        end: end,
         froms: froms,
         tos: tos,
     }
 }
 
 // Replaces the move of a place.
-fn replace_move(place: &mut [u8], froms: &[u16; 32], tos: &[u16; 32])
+fn replace_move(place: &mut [u8], froms: &[u16; 32], tos: &[u16; 32], end: usize)
     requires { ⌜ length (now place) ≡ 8 ⌝ }
-    requires { ⌜ MoveArrays (now froms) (now tos) ⌝ }
-    ensures { λ _. ⌜ now (place .exit) ≡ with-move (counts-as (now (froms .entry)) (now (tos .entry)) (move-in (now (place .entry)))) (now (place .entry)) ⌝ }
+    requires { ⌜ MoveArrays (now froms) (now tos) end ⌝ }
+    ensures { λ _. ⌜ now (place .exit) ≡ with-move (counts-as (now (froms .entry)) (now (tos .entry)) end (move-in (now (place .entry)))) (now (place .entry)) ⌝ }
 {
     let action = number(place[1], place[7]) as u16;
     if stands(froms, action) {
-        let to = to_move(froms, tos, action);
+        let to = to_move(froms, tos, end, action);
         place[1] = (to % 256) as u8;
         place[7] = (to / 256) as u8;
     }
 }
 
 // Replaces the moves of so many places.
-fn replace_moves(rules: &mut [u8], count: usize, froms: &[u16; 32], tos: &[u16; 32])
+fn replace_moves(rules: &mut [u8], count: usize, froms: &[u16; 32], tos: &[u16; 32], end: usize)
     requires { ⌜ 8 * count ≤ length (now rules) ⌝ }
-    requires { ⌜ MoveArrays (now froms) (now tos) ⌝ }
-    ensures { λ _. ⌜ now (rules .exit) ≡ with-moves (counts-as (now (froms .entry)) (now (tos .entry))) count (now (rules .entry)) ++ drop (8 * count) (now (rules .entry)) ⌝ }
+    requires { ⌜ MoveArrays (now froms) (now tos) end ⌝ }
+    ensures { λ _. ⌜ now (rules .exit) ≡ with-moves (counts-as (now (froms .entry)) (now (tos .entry)) end) count (now (rules .entry)) ++ drop (8 * count) (now (rules .entry)) ⌝ }
 {
     let mut i = 0;
     while i < count {
         let start = 8 * i;
-        let end = start + 8;
-        replace_move(&mut rules[start..end], froms, tos);
+        let next = start + 8;
+        replace_move(&mut rules[start..next], froms, tos, end);
         i += 1;
     }
 }
 
-// A table under a list, whatever it comes from: refusals 12 and 13 come after its own.
-pub fn with_list(table: Loaded, list: &[u8]) -> Loaded
-    requires { ⌜ (table .end ≤ 2016) × (length (table .rules) ≡ 2016) ⌝ }
-    ensures { λ r. ⌜ ((f : ℕ) (t : Table) → Loads f t (table .refusal) (table .jobs) (table .end) (table .rules) (table .norms) →
-        Loads (refusals.or-else f (alike-refusal (now (list .entry)))) (replaced (alike-pairs (now (list .entry))) t) (r .refusal) (r .jobs) (r .end) (r .rules) (r .norms)) ⌝ }
+// A table under a list, whatever it comes from: refusals 12 and 13 come after its own, and once none is met its moves are replaced.
+pub fn replace(refusal: u8, end: usize, rules: &mut [u8; 2016], list: &[u8]) -> u8
+    requires { ⌜ (end ≤ 2016) × (length (now rules) ≡ 2016) ⌝ }
+    ensures { λ r. ⌜ ((f : ℕ) (t : Table) (jobs : ℕ) (ns : List ℕ) → Loads f t refusal jobs end (now (rules .entry)) ns →
+        Loads (refusals.or-else f (alike-refusal (now (list .entry)))) (replaced (alike-pairs (now (list .entry))) t) r jobs end (now (rules .exit)) ns) ⌝ }
 {
     if list.len() == 0 {
-        return table;
+        return refusal;
     }
     let pairs = read_list(list);
-    let refusal = or_else(table.refusal, pairs.refusal);
-    let mut rules = table.rules;
-    if refusal == 0 {
+    let both = or_else(refusal, pairs.refusal);
+    if both == 0 {
         let froms = pairs.froms;
         let tos = pairs.tos;
-        replace_moves(&mut rules, table.end / 8, &froms, &tos);
+        replace_moves(rules, end / 8, &froms, &tos, pairs.end);
     }
-    let norms = table.norms;
-    Loaded {
-        refusal: refusal,
-        jobs: table.jobs,
-        end: table.end,
-        rules: rules,
-        norms: norms,
-    }
-}
-
-// The table of an image under a list: refusals 2 to 7, 12 and 13.
-pub fn load(image: &[u8], list: &[u8]) -> Loaded
-    ensures { λ r. ⌜ Loads (listed-refusal (now (image .entry)) (now (list .entry))) (alike-table (now (image .entry)) (now (list .entry))) (r .refusal) (r .jobs) (r .end) (r .rules) (r .norms) ⌝ }
-{
-    with_list(table::load(image), list)
+    both
 }

@@ -1,6 +1,5 @@
 -- The promises about the numbers that the calls give back and the bytes that they write, each with its proved term. Assumes nothing.
 use mathlib.Core.Path.{_≡_, refl, sym, ap, subst, _∙_}
-use mathlib.Core.Bool.{true}
 use mathlib.Core.List.{List, [], _∷_, _++_, cons≢nil}
 use mathlib.Core.Logic.{_↔_}
 use Prim.Native.Nat.{ℕ, suc, _-_, _≤_, _<_}
@@ -10,21 +9,11 @@ use lib.ListN.{length, getD, take, drop}
 use Rattle.area.specs.Numbers.{number-at, low-first}
 use Rattle.area.proofs.Numbers.{number-there}
 use Rattle.bpa.specs.Plans.{Step, moves}
-use Rattle.bpa.specs.Norms.{norms, norm, Fewest}
-use Rattle.bpa.specs.Bisimilar.{Bisimilar, Form}
-use Rattle.bpa.specs.Method.{same, prime-form}
-use Rattle.bpa.proofs.Basics.Cases.{by-test, never-both}
+use Rattle.bpa.specs.Norms.{norm, Fewest}
 use Rattle.bpa.proofs.Norm.NormFewest.{norm-fewest}
-use Rattle.bpa.proofs.Base.MethodDecides.{equivalent-bisimilar}
-use Rattle.bpa.proofs.Forms.FormMeaning.{stands-lowest}
-use Rattle.bpa.proofs.Answers.{same-exact, same-forms, form-exists, form-single, form-longest, lowest-own-form}
 use Rattle.rules.specs.Places.{table-bytes}
-use Rattle.answer.specs.Refusals.{space-refusal}
-use Rattle.answer.specs.Answer.{one-if, Writes, with-space}
-use Rattle.answer.proofs.RefusalChains.{neither, both-pass}
-use Rattle.answer.proofs.Results.{result-is, one-yes, one-no, written-result, result-written}
-use Rattle.refusal.specs.Refusals.{plan-refusal, plans-refusal}
-use Rattle.refusal.proofs.PlanRefusals.{accepted-plans, job-passed}
+use Rattle.answer.specs.Answer.{Writes}
+use Rattle.answer.proofs.Results.{result-is, written-result, result-written}
 use Rattle.image.specs.Image.{image-refusal, image-jobs, image-places, table-in}
 use Rattle.image.specs.Writing.{write-refusal, written}
 use Rattle.image.proofs.TableBytes.{bytes-of-list, bytes-of-image}
@@ -34,15 +23,14 @@ use Rattle.moves.specs.Shown.{shown, At}
 use Rattle.moves.specs.Moves.{move-bytes}
 use Rattle.moves.proofs.ShownMoves.{once-apart}
 use Rattle.moves.proofs.NoSuchMove.{no-such-move}
-use Rattle.table.specs.CallRefusals.{one-plan, two-plans}
+use Rattle.table.specs.CallRefusals.{one-plan}
 use Rattle.table.proofs.ImageTables.{image-passes, image-table}
-use Rattle.workspace.proofs.UsablePart.{long-passes}
-use Rattle.sameness.specs.SamenessCalls.{Formed}
 use Rattle.promises.specs.Promises.{all-bytes}
 use Rattle.promises.specs.Calls as promised
 use Rattle.promises.proofs.ListedMoves.{listed-step, step-listed}
 use Rattle.promises.proofs.SmallMoves.{step-small}
 use Rattle.promises.proofs.AcceptedCalls.{accepted-both}
+use Rattle.promises.proofs.SourceCalls.{answer-tells, bytes-form, bytes-stand, bytes-tell}
 
 -- a job count and the rest of what was read
 parts : (n j : ℕ) (o ps : List ℕ) → n ≡ suc (length ps) → take n o ≡ j ∷ ps → (getD o 0 0 ≡ j) × (take (n - 1) (drop 1 o) ≡ ps)
@@ -148,83 +136,19 @@ moves-written-once bs p o o′ u u′ i k n b w v l same =
     let rest : q′ ≡ q = sym (rest-behind a′ q′ (take n o′) other small′) ∙ rest-behind a q (take n o′) one small in
     once-apart (moves t p) (record { move = a; rest = q }) i k x (subst (At (shown t p) k) (λ d. record { move = move d; rest = rest d }) y)
 
+-- THE CALLS ABOUT SAMENESS, of an image as a source of tables
 pub compare-tells : promised.Compare-tells
 unfolding promised.Compare-tells
-compare-tells bs p q s s′ n w =
-    let t = table-in bs in
-    let checks = two-plans bs p q in
-    let (f, v) = result-is (with-space s checks) (one-if (same t p q)) n (w .answer) in
-    let (i, k) = neither (image-refusal bs) (plans-refusal t p q) (neither (space-refusal s) checks f .1) in
-    let (a, c) = accepted-plans t p q k in
-    let exact : (same t p q ≡ true) ↔ Bisimilar t p q = same-exact t (image-table bs i .good) p q (a .over-table) (c .over-table) in (
-      (
-        (λ e. exact .0 (one-yes (same t p q) .0 (sym v ∙ e))),
-        (λ e. v ∙ one-yes (same t p q) .1 (exact .1 e)),
-      ),
-      (
-        (λ e d. never-both (same t p q) (exact .1 d) (one-no (same t p q) .0 (sym v ∙ e))),
-        (λ d. v ∙ one-no (same t p q) .1 (by-test (same t p q) (λ e. absurd (d (exact .0 e))) (λ e. e))),
-      ),
-    )
-
--- a prime form call that gives back a result was not refused
-written-form : (bs p o o′ s s′ : List ℕ) (n : ℕ) → Formed bs p o s (pos n) o′ s′ →
-    (one-plan bs p ≡ 0) × (n ≡ length (take n o′)) × (take n o′ ≡ prime-form (table-in bs) p)
-written-form bs p o o′ s s′ n w =
-    let a = written-result (with-space s (one-plan bs p)) (prime-form (table-in bs) p) o o′ n (w .written) in
-    (neither (space-refusal s) (one-plan bs p) (a .passed) .1, a .count ∙ ap length (sym (a .bytes)), a .bytes)
-
-form-of-written : (bs p o o′ s s′ : List ℕ) (n : ℕ) → Formed bs p o s (pos n) o′ s′ → Form (table-in bs) p (take n o′)
-form-of-written bs p o o′ s s′ n w =
-    let (f, c, e) = written-form bs p o o′ s s′ n w in
-    let a = accepted-both bs p f in
-    subst (Form (table-in bs) p) (sym e) (form-exists (table-in bs) (a .table .good) p (a .plan .over-table))
+compare-tells bs = answer-tells (image-refusal bs) (table-in bs) (image-table bs)
 
 pub form-written : promised.Form-written
 unfolding promised.Form-written
-form-written bs p o o′ s s′ n w =
-    let t = table-in bs in
-    let (f, c, e) = written-form bs p o o′ s s′ n w in
-    let form = form-of-written bs p o o′ s s′ n w in (
-      form,
-      sym c,
-      λ q b. subst (λ (m : ℕ). length q ≤ m) (sym c) (form-longest t (accepted-both bs p f .table .good) p (take n o′) q form b),
-    )
-
--- a call about the plan of one job passes its checks
-one-job : (bs : List ℕ) (j : ℕ) (s : List ℕ) → image-refusal bs ≡ 0 → j < table-in bs .jobs → 65536 ≤ length s →
-    with-space s (one-plan bs (j ∷ [])) ≡ 0
-one-job bs j s h l k =
-    let t = table-in bs in
-    both-pass (space-refusal s) (one-plan bs (j ∷ [])) (long-passes s k)
-    (both-pass (image-refusal bs) (plan-refusal t (j ∷ [])) h (job-passed t j (image-table bs h) l))
+form-written bs = bytes-form (image-refusal bs) (table-in bs) (image-table bs)
 
 pub stands-written : promised.Stands-written
 unfolding promised.Stands-written
-stands-written bs j h l =
-    let t = table-in bs in
-    let g = image-table bs h .good in (
-      λ low o o′ s s′ r room space w.
-          let own : j ∷ [] ≡ prime-form t (j ∷ []) = form-single t g (j ∷ []) (j ∷ []) (lowest-own-form t g j low) in
-          let checks = with-space s (one-plan bs (j ∷ [])) in
-          let k : Writes checks (j ∷ []) o r o′ = subst (λ (x : List ℕ). Writes checks x o r o′) (sym own) (w .written) in
-          result-written checks (j ∷ []) o r o′ (one-job bs j s h l space) room k,
-      λ p o o′ s s′ n w m.
-          stands-lowest t (norms t) g (equivalent-bisimilar t (norms t) g) j p (take n o′) (form-of-written bs p o o′ s s′ n w) m,
-    )
+stands-written bs = bytes-stand (image-refusal bs) (table-in bs) (image-table bs)
 
 pub forms-written : promised.Forms-written
 unfolding promised.Forms-written
-forms-written bs p q o o′ s s′ u u′ v v′ n m w x =
-    let t = table-in bs in
-    let (f, c, e) = written-form bs p o o′ s s′ n w in
-    let (h, d, k) = written-form bs q u u′ v v′ m x in
-    let a = accepted-both bs p f in
-    let oₚ = a .plan .over-table in
-    let o₌ = accepted-both bs q h .plan .over-table in
-    let g = a .table .good in
-    let forms = same-forms t g p q oₚ o₌ in
-    let exact = same-exact t g p q oₚ o₌ in (
-      (λ z. exact .0 (forms .1 (sym e ∙ z ∙ k))),
-      (λ z. e ∙ forms .0 (exact .1 z) ∙ sym k),
-    )
+forms-written bs = bytes-tell (image-refusal bs) (table-in bs) (image-table bs)

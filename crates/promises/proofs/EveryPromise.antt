@@ -5,6 +5,7 @@ use Rattle.promises.proofs.Calls as calls
 use Rattle.promises.proofs.BothAges as bothages
 use Rattle.promises.proofs.Remainders as remainders
 use Rattle.promises.proofs.FirstRuns as firstruns
+use Rattle.promises.proofs.AlikeLists as alikelists
 use Rattle.promises.proofs.WorkedCases as workedcases
 
 pub every-promise : EveryPromise
@@ -71,6 +72,33 @@ every-promise = record {
   form-written = calls.form-written;
   stands-written = calls.stands-written;
   forms-written = calls.forms-written;
+  twelve-exactly = alikelists.twelve-exactly;
+  thirteen-exactly = alikelists.thirteen-exactly;
+  pairs-replace = alikelists.pairs-replace;
+  others-stay = alikelists.others-stay;
+  replaced-once = alikelists.replaced-once;
+  replaced-none = alikelists.replaced-none;
+  replaced-norms = alikelists.replaced-norms;
+  replaced-over = alikelists.replaced-over;
+  replaced-accepted = alikelists.replaced-accepted;
+  replaced-refusals = alikelists.replaced-refusals;
+  replaced-steps = alikelists.replaced-steps;
+  bisimulations-alike = alikelists.bisimulations-alike;
+  any-bisimulations-alike = alikelists.any-bisimulations-alike;
+  same-stays = alikelists.same-stays;
+  alike-same-exactly = alikelists.alike-same-exactly;
+  alike-apart-from-all = alikelists.alike-apart-from-all;
+  alike-form-there = alikelists.alike-form-there;
+  alike-form-single = alikelists.alike-form-single;
+  alike-forms-tell = alikelists.alike-forms-tell;
+  alike-form-longest = alikelists.alike-form-longest;
+  alike-stands-exactly = alikelists.alike-stands-exactly;
+  no-list-compared = alikelists.no-list-compared;
+  no-list-formed = alikelists.no-list-formed;
+  alike-compare-tells = alikelists.alike-compare-tells;
+  alike-form-written = alikelists.alike-form-written;
+  alike-stands-written = alikelists.alike-stands-written;
+  alike-forms-written = alikelists.alike-forms-written;
   rows-normed = remainders.rows-normed;
   remainders-normed = remainders.remainders-normed;
   unequal-norms = remainders.unequal-norms;

@@ -5,7 +5,9 @@ pub mod ListedMoves
 pub mod SmallMoves
 pub mod AcceptedCalls
 pub mod Promises
+pub mod SourceCalls
 pub mod Calls
+pub mod AlikeLists
 pub mod BothAges
 pub mod Remainders
 pub mod FirstRuns

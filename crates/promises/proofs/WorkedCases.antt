@@ -36,10 +36,16 @@ use Rattle.first_run.specs.FirstRun.{First, earlier, earliest, runs-by, job-run
 use Rattle.first_run.proofs.FirstRuns.{first-run-first}
 use Rattle.table.specs.CallRefusals.{one-plan, two-plans}
 use Rattle.table.proofs.ImageTables.{image-table}
+use Rattle.alike.specs.Alike as alike
+use Rattle.alike.specs.Alike.{replaced-rule, replaced, is-from, from-twice, from-as-to, clashes}
+use Rattle.alike.proofs.ReplacedTables.{norms-replaced, good-replaced}
+use Rattle.alike_list.specs.AlikeLists.{pairs-in, pair-count, alike-pairs, pairs-refusal, clash-refusal, alike-refusal}
+use Rattle.alike_list.specs.AlikeTables.{two-plans-alike}
 use Rattle.table.proofs.ListTables.{list-closed}
 use Rattle.promises.specs.WorkedCases.{Worked, image-of, read-back, listed, HasNorms, Means, plan-passes, pair-passes, has-form}
-use Rattle.promises.specs.WorkedCases.{passes, all-pass, cases, Cases-hold}
+use Rattle.promises.specs.WorkedCases.{under-passes, passes, all-pass, cases, Cases-hold}
 use Rattle.promises.specs.WorkedCases.{Case, refusal-is, byte-is, norms-are, pair-refusal-is, are-same, are-apart, form-is, is-prime, move-is, run-is}
+use Rattle.promises.specs.WorkedCases.{alike-refusal-is, same-under, apart-under}
 
 -- THE COMPUTED PROOF
 cases-pass : all-pass cases ≡ true
@@ -50,7 +56,8 @@ unfolding all-pass passes has-form plan-passes pair-passes equal-plans same-move
     jobs-refusal sum-refusal plan-refusal plans-refusal number-at byte-sum checksum block blocks-in rules-in-block block-places each-block
     length-good sum-good rules-fit head-of head-good places-of-block block-good layout-refusal places-from image-jobs image-places table-in
     image-refusal low-first blocks-for rules-for body written-block written-from written list-refusal write-refusal
-    earlier earliest runs-by job-run run-of first-run
+    earlier earliest runs-by job-run run-of first-run under-passes pairs-in pair-count alike-pairs pairs-refusal clash-refusal alike-refusal
+    alike.replace replaced-rule replaced is-from from-twice from-as-to clashes
 cases-pass = refl
 
 module _ (w : Worked) where
@@ -106,6 +113,35 @@ module _ (w : Worked) where
         let exact = same-exact (read-back w) (good check-pair e) p q (a .over-table) (b .over-table) in
         (λ s. exact .0 (same-back ∙ s), λ s. sym same-back ∙ exact .1 s)
 
+  -- two plans under an alike list
+  module _ (ls p q : List ℕ) (e : under-passes ls w p q ≡ true) where
+    abbrev under : Table → Table
+    under t = replaced (alike-pairs ls) t
+
+    abbrev check-under : Table → ℕ
+    check-under t = or-else (alike-refusal ls) (plans-refusal (under t) p q)
+
+    under-parts : (alike-refusal ls ≡ 0) × (plans-refusal (under (read-back w)) p q ≡ 0)
+    unfolding under-passes
+    under-parts = neither (alike-refusal ls) (plans-refusal (under (read-back w)) p q) (check-passed check-under e)
+
+    under-accepted : two-plans-alike (image-of w) ls p q ≡ 0
+    unfolding under-passes
+    under-accepted =
+        both-pass (or-else (image-refusal (image-of w)) (alike-refusal ls)) (plans-refusal (under (read-back w)) p q)
+        (both-pass (image-refusal (image-of w)) (alike-refusal ls) (image-passed check-under e) (under-parts .0)) (under-parts .1)
+
+    under-told : (same (under (listed w)) p q ≡ true) ↔ Bisimilar (under (read-back w)) p q
+    unfolding under-passes
+    under-told =
+        let u = under (read-back w) in
+        let (a, b) = accepted-plans u p q (under-parts .1) in
+        let same-back = ap (λ (t : Table). same (under t) p q) (back check-under e) in
+        let g = subst (Good u) (sym (norms-replaced (alike-pairs ls) (read-back w)))
+        (good-replaced (alike-pairs ls) (read-back w) (norms (read-back w)) (good check-under e)) in
+        let exact = same-exact u g p q (a .over-table) (b .over-table) in
+        (λ s. exact .0 (same-back ∙ s), λ s. sym same-back ∙ exact .1 s)
+
   -- a row of numbers that is computed from the table is one of the table in the image
   module _ (p : List ℕ) (row : Table → List ℕ) (is : List ℕ) (e : (plan-passes w p && equal-plans (row (listed w)) is) ≡ true) where
     abbrev check-plan : Table → ℕ
@@ -159,6 +195,16 @@ case-true (are-apart w p q) e =
 case-true (form-is w p f) e = form-holds w p f e
 case-true (is-prime w j) e = form-prime (read-back w) j (form-holds w (j ∷ []) (j ∷ []) e .1)
 case-true (run-is w p run) e = row-holds w p (λ t. first-run t p) run e (λ t. First t p) (λ t g. first-run-first t g p)
+case-true (alike-refusal-is ls f) e = eqb-true (alike-refusal ls) f e
+case-true (same-under ls w p q) e =
+    let t = replaced (alike-pairs ls) (listed w) in
+    let k = and-left (under-passes ls w p q) (same t p q) e in
+    (under-accepted w ls p q k, under-told w ls p q k .0 (and-right (under-passes ls w p q) (same t p q) e))
+case-true (apart-under ls w p q) e =
+    let t = replaced (alike-pairs ls) (listed w) in
+    let k = and-left (under-passes ls w p q) (not (same t p q)) e in
+    let no = not-true (same t p q) (and-right (under-passes ls w p q) (not (same t p q)) e) in
+    (under-accepted w ls p q k, λ b. never-both (same t p q) (under-told w ls p q k .1 b) no)
 case-true (move-is w p n bs) e =
     let row : Table → List ℕ = λ t. move-bytes (shown t p) n in
     (both-passed w (check-plan w p row bs e) (plan-passed w p row bs e), row-back w p row bs e)

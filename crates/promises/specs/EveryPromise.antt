@@ -5,6 +5,7 @@ use Rattle.promises.specs.Calls as calls
 use Rattle.promises.specs.BothAges as bothages
 use Rattle.promises.specs.Remainders as remainders
 use Rattle.promises.specs.FirstRuns as firstruns
+use Rattle.promises.specs.AlikeLists as alikelists
 use Rattle.promises.specs.WorkedCases as workedcases
 
 pub record EveryPromise : Type 1 where
@@ -80,6 +81,34 @@ pub record EveryPromise : Type 1 where
   pub form-written : calls.Form-written
   pub stands-written : calls.Stands-written
   pub forms-written : calls.Forms-written
+  -- ALIKE LISTS
+  pub twelve-exactly : alikelists.Twelve-exactly
+  pub thirteen-exactly : alikelists.Thirteen-exactly
+  pub pairs-replace : alikelists.Pairs-replace
+  pub others-stay : alikelists.Others-stay
+  pub replaced-once : alikelists.Replaced-once
+  pub replaced-none : alikelists.Replaced-none
+  pub replaced-norms : alikelists.Replaced-norms
+  pub replaced-over : alikelists.Replaced-over
+  pub replaced-accepted : alikelists.Replaced-accepted
+  pub replaced-refusals : alikelists.Replaced-refusals
+  pub replaced-steps : alikelists.Replaced-steps
+  pub bisimulations-alike : alikelists.Bisimulations-alike
+  pub any-bisimulations-alike : alikelists.Any-bisimulations-alike
+  pub same-stays : alikelists.Same-stays
+  pub alike-same-exactly : alikelists.Alike-same-exactly
+  pub alike-apart-from-all : alikelists.Alike-apart-from-all
+  pub alike-form-there : alikelists.Alike-form-there
+  pub alike-form-single : alikelists.Alike-form-single
+  pub alike-forms-tell : alikelists.Alike-forms-tell
+  pub alike-form-longest : alikelists.Alike-form-longest
+  pub alike-stands-exactly : alikelists.Alike-stands-exactly
+  pub no-list-compared : alikelists.No-list-compared
+  pub no-list-formed : alikelists.No-list-formed
+  pub alike-compare-tells : alikelists.Alike-compare-tells
+  pub alike-form-written : alikelists.Alike-form-written
+  pub alike-stands-written : alikelists.Alike-stands-written
+  pub alike-forms-written : alikelists.Alike-forms-written
   -- THE NORMS THAT THE ROUNDS LOOK UP
   pub rows-normed : remainders.Rows-normed
   pub remainders-normed : remainders.Remainders-normed

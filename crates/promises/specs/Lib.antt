@@ -1,6 +1,7 @@
 -- What is promised of tables, plans and images.
 pub mod Promises
 pub mod Calls
+pub mod AlikeLists
 pub mod BothAges
 pub mod Remainders
 pub mod FirstRuns

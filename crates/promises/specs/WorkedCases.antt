@@ -1,5 +1,5 @@
 -- The worked tables of document 01 marked P, two of them from 000, one whose moves need two bytes, one with a choice written again and again, and
--- one with several shortest runs, in two orders: one list of cases, what each means, and one test over them.
+-- one with several shortest runs, in two orders; and alike lists: one list of cases, what each means, and one test over them.
 -- The test computes on the rules of a table; the meaning is of the image that is written from them. Assumes nothing: these are
 -- definitions.
 use mathlib.Core.Path.{_≡_}
@@ -21,6 +21,9 @@ use Rattle.moves.specs.Shown.{equal-plans, shown}
 use Rattle.moves.specs.Moves.{move-bytes}
 use Rattle.first_run.specs.FirstRun.{First, first-run}
 use Rattle.table.specs.CallRefusals.{one-plan, two-plans}
+use Rattle.alike.specs.Alike.{replaced}
+use Rattle.alike_list.specs.AlikeLists.{alike-pairs, alike-refusal}
+use Rattle.alike_list.specs.AlikeTables.{alike-table, two-plans-alike}
 
 -- A WORKED TABLE: a job count, and the rules as 8-byte places in a row
 pub record Worked : Type 0 where
@@ -52,6 +55,10 @@ pub data Case : Type 0 where
   move-is : (w : Worked) (plan : List ℕ) (n : ℕ) (bytes : List ℕ) → Case
   -- the first shortest run
   run-is : (w : Worked) (plan run : List ℕ) → Case
+  -- what an alike list is refused by, and two plans under one
+  alike-refusal-is : (list : List ℕ) (refusal : ℕ) → Case
+  same-under : (list : List ℕ) (w : Worked) (left right : List ℕ) → Case
+  apart-under : (list : List ℕ) (w : Worked) (left right : List ℕ) → Case
 
 -- a job of norm 0 has no run to its end
 abbrev pub HasNorms : Table → (jobs : ℕ) → (by-job : List ℕ) → Type 0
@@ -70,6 +77,9 @@ Means (form-is w p f) = (one-plan (image-of w) p ≡ 0) × Form (read-back w) p 
 Means (is-prime w j) = Prime (read-back w) j
 Means (move-is w p n bs) = (one-plan (image-of w) p ≡ 0) × (move-bytes (shown (read-back w) p) n ≡ bs)
 Means (run-is w p run) = (one-plan (image-of w) p ≡ 0) × First (read-back w) p run
+Means (alike-refusal-is ls f) = alike-refusal ls ≡ f
+Means (same-under ls w p q) = (two-plans-alike (image-of w) ls p q ≡ 0) × Bisimilar (alike-table (image-of w) ls) p q
+Means (apart-under ls w p q) = (two-plans-alike (image-of w) ls p q ≡ 0) × (Bisimilar (alike-table (image-of w) ls) p q → ⊥)
 
 -- THE TEST
 -- no refusal meets the list and the plans
@@ -78,6 +88,14 @@ pair-passes w p q = eqb (or-else (write-refusal (w .jobs) (w .rules)) (plans-ref
 
 unfoldable pub plan-passes : (w : Worked) → (p : List ℕ) → Bool
 plan-passes w p = eqb (or-else (write-refusal (w .jobs) (w .rules)) (plan-refusal (listed w) p)) 0
+
+-- nor the alike list
+abbrev pub listed-under : (list : List ℕ) → Worked → Table
+listed-under ls w = replaced (alike-pairs ls) (listed w)
+
+unfoldable pub under-passes : (list : List ℕ) → (w : Worked) → (p q : List ℕ) → Bool
+under-passes ls w p q =
+    eqb (or-else (write-refusal (w .jobs) (w .rules)) (or-else (alike-refusal ls) (plans-refusal (listed-under ls w) p q))) 0
 
 unfoldable pub has-form : (w : Worked) → (p f : List ℕ) → Bool
 has-form w p f = plan-passes w p && equal-plans (prime-form (listed w) p) f
@@ -93,6 +111,9 @@ passes (form-is w p f) = has-form w p f
 passes (is-prime w j) = has-form w (j ∷ []) (j ∷ [])
 passes (move-is w p n bs) = plan-passes w p && equal-plans (move-bytes (shown (listed w) p) n) bs
 passes (run-is w p run) = plan-passes w p && equal-plans (first-run (listed w) p) run
+passes (alike-refusal-is ls f) = eqb (alike-refusal ls) f
+passes (same-under ls w p q) = under-passes ls w p q && same (listed-under ls w) p q
+passes (apart-under ls w p q) = under-passes ls w p q && not (same (listed-under ls w) p q)
 
 unfoldable pub all-pass : List Case → Bool
 all-pass [] = true
@@ -176,6 +197,10 @@ ties-reordered =
           to-none 0 99;
     }
 
+-- a pair of an alike list, of moves below 256
+abbrev pub pair : (from to : ℕ) → List ℕ
+pair a b = a ∷ 0 ∷ b ∷ 0 ∷ []
+
 abbrev pub cases : List Case
 cases =
     refusal-is table-t 0 ∷ byte-is table-t 510 152 ∷ byte-is table-t 511 1 ∷ norms-are table-t (1 ∷ 2 ∷ 3 ∷ 2 ∷ []) ∷
@@ -199,7 +224,13 @@ cases =
     move-is choice-repeated (1 ∷ []) 1 (97 ∷ 0 ∷ []) ∷ move-is choice-repeated (1 ∷ []) 2 [] ∷ move-is choice-repeated [] 0 [] ∷
     run-is ties (2 ∷ []) (97 ∷ 98 ∷ []) ∷ run-is ties (3 ∷ 2 ∷ 0 ∷ []) (255 ∷ 97 ∷ 98 ∷ 99 ∷ []) ∷
     run-is ties-reordered (3 ∷ 2 ∷ 0 ∷ []) (255 ∷ 97 ∷ 98 ∷ 99 ∷ []) ∷ run-is ties [] [] ∷
-    run-is table-t (2 ∷ 3 ∷ []) (97 ∷ 97 ∷ 97 ∷ 98 ∷ 97 ∷ []) ∷ []
+    run-is table-t (2 ∷ 3 ∷ []) (97 ∷ 97 ∷ 97 ∷ 98 ∷ 97 ∷ []) ∷
+    alike-refusal-is [] 0 ∷ alike-refusal-is (pair 97 99 ++ pair 98 99) 0 ∷ alike-refusal-is (97 ∷ 0 ∷ 98 ∷ []) 12 ∷
+    alike-refusal-is (pair 97 98 ++ pair 98 99) 13 ∷ alike-refusal-is (pair 98 99 ++ pair 97 98) 13 ∷ alike-refusal-is (pair 97 97) 13 ∷
+    alike-refusal-is (pair 97 98 ++ pair 97 99) 13 ∷
+    same-under (pair 98 97) table-t (3 ∷ []) (1 ∷ []) ∷ apart-under (pair 99 97) table-t (3 ∷ []) (1 ∷ []) ∷
+    same-under (pair 99 98) late-choice (0 ∷ []) (2 ∷ []) ∷ apart-under (pair 98 97) late-choice (0 ∷ []) (2 ∷ []) ∷
+    same-under (232 ∷ 3 ∷ 232 ∷ 0 ∷ []) larger-moves (0 ∷ []) (1 ∷ []) ∷ apart-under (pair 232 97) larger-moves (0 ∷ []) (1 ∷ []) ∷ []
 
 -- EVERY CASE IS TRUE
 unfoldable pub Cases-hold : Type 0

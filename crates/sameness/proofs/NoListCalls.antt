@@ -18,9 +18,9 @@ compared-none bs p q s r s′ =
     let t = no-replacement (table-in bs) in
     let f = two-plans-none bs p q in (
       (λ w. subst (λ (n : ℕ). GivesWithSpace n (one-if (same (table-in bs) p q)) s r s′) f
-      (subst (λ (u : Table). GivesWithSpace (two-plans-alike bs [] p q) (one-if (same u p q)) s r s′) t w)),
+          (subst (λ (u : Table). GivesWithSpace (two-plans-alike bs [] p q) (one-if (same u p q)) s r s′) t w)),
       (λ w. subst (λ (n : ℕ). GivesWithSpace n (one-if (same (alike-table bs []) p q)) s r s′) (sym f)
-      (subst (λ (u : Table). GivesWithSpace (two-plans bs p q) (one-if (same u p q)) s r s′) (sym t) w)),
+          (subst (λ (u : Table). GivesWithSpace (two-plans bs p q) (one-if (same u p q)) s r s′) (sym t) w)),
     )
 
 pub formed-none : (bs p o s : List ℕ) (r : ℤ) (o′ s′ : List ℕ) → FormedAlike bs [] p o s r o′ s′ ↔ Formed bs p o s r o′ s′
@@ -28,7 +28,7 @@ formed-none bs p o s r o′ s′ =
     let t = no-replacement (table-in bs) in
     let f = one-plan-none bs p in (
       (λ w. subst (λ (n : ℕ). WritesWithSpace n (prime-form (table-in bs) p) o s r o′ s′) f
-      (subst (λ (u : Table). WritesWithSpace (one-plan-alike bs [] p) (prime-form u p) o s r o′ s′) t w)),
+          (subst (λ (u : Table). WritesWithSpace (one-plan-alike bs [] p) (prime-form u p) o s r o′ s′) t w)),
       (λ w. subst (λ (n : ℕ). WritesWithSpace n (prime-form (alike-table bs []) p) o s r o′ s′) (sym f)
-      (subst (λ (u : Table). WritesWithSpace (one-plan bs p) (prime-form u p) o s r o′ s′) (sym t) w)),
+          (subst (λ (u : Table). WritesWithSpace (one-plan bs p) (prime-form u p) o s r o′ s′) (sym t) w)),
     )

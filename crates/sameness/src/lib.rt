@@ -7,16 +7,19 @@ ghost use Rattle.sameness.specs.SamenessCalls.{Compared, Formed, Compare
 fn compare_in(image: &[u8], alike: &[u8], left: &[u8], right: &[u8], space: &mut [u8]) -> i32
     ensures { λ r. ⌜ Comparing (now (image .entry)) (now (alike .entry)) (now (left .entry)) (now (right .entry)) (now (space .entry)) r (now (space .exit)) ⌝ }
 {
-    let table = alike_list::load(image, alike);
+    let mut table = table::load(image);
+    let own = table.refusal;
+    let end = table.end;
+    let of_table = alike_list::replace(own, end, &mut table.rules, alike);
     let norms = table.norms;
     let of_plans = refusal::plans_refusal(table.jobs, &norms, left, right);
-    let refusal = or_else(workspace::refusal(space), or_else(table.refusal, of_plans));
+    let refusal = or_else(workspace::refusal(space), or_else(of_table, of_plans));
     if refusal != 0 {
         return answer::refused(refusal);
     }
     answer::one_if(engine::same(
         table.jobs,
-        table::rules_of(&table.rules, table.end),
+        table::rules_of(&table.rules, end),
         &norms,
         left,
         right,
@@ -25,13 +28,7 @@ fn compare_in(image: &[u8], alike: &[u8], left: &[u8], right: &[u8], space: &mut
 }
 
 // 1 for two plans that are the same under a list, 0 for two that are apart.
-pub fn compare_alike(
-    image: &[u8],
-    alike: &[u8],
-    left: &[u8],
-    right: &[u8],
-    space: &mut [u8],
-) -> i32
+pub fn compare_alike(image: &[u8], alike: &[u8], left: &[u8], right: &[u8], space: &mut [u8]) -> i32
     ensures { λ r. ⌜ ComparedAlike (now (image .entry)) (now (alike .entry)) (now (left .entry)) (now (right .entry)) (now (space .entry)) r (now (space .exit)) ⌝ }
 {
     let answer = compare_in(image, alike, left, right, space);
@@ -49,16 +46,19 @@ pub fn compare(image: &[u8], left: &[u8], right: &[u8], space: &mut [u8]) -> i32
 fn form_in(image: &[u8], alike: &[u8], plan: &[u8], out: &mut [u8], space: &mut [u8]) -> i32
     ensures { λ r. ⌜ Forming (now (image .entry)) (now (alike .entry)) (now (plan .entry)) (now (out .entry)) (now (space .entry)) r (now (out .exit)) (now (space .exit)) ⌝ }
 {
-    let table = alike_list::load(image, alike);
+    let mut table = table::load(image);
+    let own = table.refusal;
+    let end = table.end;
+    let of_table = alike_list::replace(own, end, &mut table.rules, alike);
     let norms = table.norms;
     let of_plan = refusal::plan_refusal(table.jobs, &norms, plan);
-    let refusal = or_else(workspace::refusal(space), or_else(table.refusal, of_plan));
+    let refusal = or_else(workspace::refusal(space), or_else(of_table, of_plan));
     if refusal != 0 {
         return answer::refused(refusal);
     }
     engine::form(
         table.jobs,
-        table::rules_of(&table.rules, table.end),
+        table::rules_of(&table.rules, end),
         &norms,
         plan,
         out,

@@ -3,7 +3,7 @@ use mathlib.Core.Path.{_≡_, ap, _∙_}
 use mathlib.Core.Bool.{Bool, true, false, _||_}
 use mathlib.Core.List.{List}
 use mathlib.Core.Logic.{⊎-elim}
-use Prim.Native.Nat.{ℕ, _/_}
+use Prim.Native.Nat.{ℕ, _+_, _*_, _/_}
 use native.Mathlib.Omega.{arith}
 use lib.ListN.{length}
 use Rattle.bpa.proofs.Basics.Cases.{or-left, or-right}
@@ -15,7 +15,7 @@ use Rattle.alike_list.proofs.read_list.Tie as tie
 returns : tie.Need-returns
 returns c =
     let ls = c .before .before .args .list .now in
-    ⊎-elim (λ x. too-many ls (x .taken) _ _) (λ x. unfinished ls (x .1 .taken) _ _) (c .if1 .came)
+    ⊎-elim (λ x. too-many ls (x .taken) _ _ _) (λ x. unfinished ls (x .1 .taken) _ _ _) (c .if1 .came)
 
 -- a list of whole pairs
 module _ (c : tie.Else2) where
@@ -34,12 +34,12 @@ module _ (c : tie.After-tos) where
   early = from-read .before
 
   returns-clash : (from-read .from-moves .result .clash || c .before .to-moves .result .clash) ≡ true →
-      ReadsList (ls early) 13 (from-read .from-moves .result .row) (c .before .to-moves .result .row)
+      (n : ℕ) → ReadsList (ls early) 13 (from-read .from-moves .result .row) (c .before .to-moves .result .row) n
   returns-clash =
       clashing (ls early) (early .before .before .before .pre) (early .before .if1 .left) (early .if2 .left) (from-read .from-moves .ensures) (c .before .to-moves .ensures)
 
   returns-none : (from-read .from-moves .result .clash || c .before .to-moves .result .clash) ≡ false →
-      ReadsList (ls early) 0 (from-read .from-moves .result .row) (c .before .to-moves .result .row)
+      ReadsList (ls early) 0 (from-read .from-moves .result .row) (c .before .to-moves .result .row) ((length (ls early) / 4 + 15) / 16 * 16)
   returns-none =
       accepted-list (ls early) (early .before .before .before .pre) (early .before .if1 .left) (early .if2 .left) (from-read .from-moves .ensures) (c .before .to-moves .ensures)
 
@@ -48,7 +48,7 @@ returns-2 c =
     let d = c .before in
     let a = from-read d .from-moves .result .clash in
     let b = d .before .to-moves .result .clash in
-    returns-clash d (⊎-elim (λ x. or-left a b (x .taken)) (λ x. or-right a b (x .1 .taken)) (c .if3 .came))
+    returns-clash d (⊎-elim (λ x. or-left a b (x .taken)) (λ x. or-right a b (x .1 .taken)) (c .if3 .came)) _
 
 returns-3 : tie.Need-returns-3
 returns-3 c =
@@ -60,6 +60,8 @@ read-list-spec =
     tie.close
     (tie.spec
     returns
+    (λ c. omega (arith, whole c .few))  -- add-end
+    (λ c. omega (arith, whole c .few))  -- mul-end
     (λ c κs. whole c)  -- from-moves-requires
     (λ c κs. let d = c .before .before in (whole (d .before), d .from-moves .ensures .filled))  -- to-moves-requires
     returns-2

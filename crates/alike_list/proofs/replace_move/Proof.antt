@@ -5,7 +5,7 @@ use mathlib.Core.List.{List, [], _∷_}
 use Prim.Native.Nat.{ℕ, _/_, _%_}
 use native.Mathlib.Omega.{arith}
 use borrow.Author.Needs.{needs}
-use lib.ListN.{length, set, length-set}
+use lib.ListN.{length, take, set, length-set}
 use Rattle.area.specs.Areas.{put}
 use Rattle.area.proofs.PutLaws.{put-one}
 use Rattle.rules.specs.Places.{move-in}
@@ -45,11 +45,12 @@ returns c =
     let s = c .before .before in
     let fs = start s .args .froms .now in
     let ts = start s .args .tos .now in
+    let n = start s .args .end in
     let xs = start s .args .place .now in
     let a = move-in xs in
     two-bytes (c .to-move .result) xs (start s .pre .0)
     ∙ ap (λ (v : ℕ). with-move v xs)
-    (c .to-move .ensures ∙ ap (sum-at fs ts) (own s) ∙ sym (ap (λ (b : Bool). cond b (sum-at fs ts a) a) (sym (stands-is s) ∙ c .before .if1 .taken)))
+    (c .to-move .ensures ∙ ap (sum-at (take n fs) (take n ts)) (own s) ∙ sym (ap (λ (b : Bool). cond b (sum-at (take n fs) (take n ts) a) a) (sym (stands-is s) ∙ c .before .if1 .taken)))
 
 returns-2 : tie.Need-returns-2
 unfolding counts-as
@@ -57,9 +58,10 @@ returns-2 c =
     let s = c .before in
     let fs = start s .args .froms .now in
     let ts = start s .args .tos .now in
+    let n = start s .args .end in
     let xs = start s .args .place .now in
     let a = move-in xs in
-    sym (ap (λ (v : ℕ). with-move v xs) (ap (λ (b : Bool). cond b (sum-at fs ts a) a) (sym (stands-is s) ∙ c .if1 .left))
+    sym (ap (λ (v : ℕ). with-move v xs) (ap (λ (b : Bool). cond b (sum-at (take n fs) (take n ts) a) a) (sym (stands-is s) ∙ c .if1 .left))
     ∙ own-move xs (place-of-eight xs (start s .pre .0)) (omega (arith, c .before .before .before .slice-known3 .given 1)))
 
 pub replace-move-spec : {M : Type 1} → statement M

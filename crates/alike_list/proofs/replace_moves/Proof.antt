@@ -17,10 +17,10 @@ abbrev passed : (counts : ℕ → ℕ) → (i : ℕ) → (rules : List ℕ) → 
 passed f i rs = with-moves f i rs ++ drop (8 * i) rs
 
 abbrev Inv-loop : tie.InvT-loop
-Inv-loop rules₀ count froms tos i₀ rules i = (i ≤ count) × (rules ≡ passed (counts-as froms tos) i rules₀)
+Inv-loop rules₀ count froms tos end i₀ rules i = (i ≤ count) × (rules ≡ passed (counts-as froms tos end) i rules₀)
 
 abbrev μ-loop : tie.MeasureT-loop
-μ-loop rules₀ count froms tos i₀ rules i = count - i
+μ-loop rules₀ count froms tos end i₀ rules i = count - i
 
 -- what was passed, and the place that comes next
 module _ (f : ℕ → ℕ) (i : ℕ) (rs xs : List ℕ) (h : 8 * i ≤ length rs) (e : xs ≡ passed f i rs) where
@@ -43,7 +43,7 @@ module _ (f : ℕ → ℕ) (i : ℕ) (rs xs : List ℕ) (h : 8 * i ≤ length rs
       let m : 8 * i + 8 ≡ 8 * (i + 1) = omega arith in
       let next : suc i ≡ i + 1 = omega arith in
       let behind : postOf (8 * i) (8 * i + 8 - 8 * i) xs ≡ drop (8 * (i + 1)) rs =
-          ap₂ (λ (j : ℕ) (l : List ℕ). drop j l) n left ∙ drop-drop 8 (8 * i) rs ∙ ap (λ (j : ℕ). drop j rs) m in
+      ap₂ (λ (j : ℕ) (l : List ℕ). drop j l) n left ∙ drop-drop 8 (8 * i) rs ∙ ap (λ (j : ℕ). drop j rs) m in
       let front : take (8 * i) xs ≡ with-moves f i rs = ap (take (8 * i)) e ∙ take-at (with-moves f i rs) (drop (8 * i) rs) (8 * i) many in
       (λ j. front j ++ (d j ++ behind j))
       ∙ sym (append-assoc (with-moves f i rs) (with-move (f (move-in (place-at f rs i))) (place-at f rs i)) (drop (8 * (i + 1)) rs))
@@ -59,7 +59,7 @@ module _ (c : tie.In-loop Inv-loop μ-loop) where
   start = c .before .before .before
 
   abbrev f : ℕ → ℕ
-  f = counts-as (start .args .froms .now) (start .args .tos .now)
+  f = counts-as (start .args .froms .now) (start .args .tos .now) (start .args .end)
 
   inside : 8 * c .before .loop .i + 8 ≤ length (start .args .rules .now)
   inside = omega (arith, start .pre .0)
@@ -89,14 +89,14 @@ same-length : tie.Need-same-length Inv-loop μ-loop
 same-length c =
     let v = c .before in
     let s = v .before .before in
-    whole (counts-as (s .args .froms .now) (s .args .tos .now)) (v .loop .i) (s .args .rules .now) (v .loop .rules) (omega (arith, s .pre .0)) (v .loop .inv .1)
+    whole (counts-as (s .args .froms .now) (s .args .tos .now) (s .args .end)) (v .loop .i) (s .args .rules .now) (v .loop .rules) (omega (arith, s .pre .0)) (v .loop .inv .1)
 
 returns : tie.Need-returns Inv-loop μ-loop
 returns c =
     let v = c .before in
     let s = v .before .before in
     let e : v .loop .i ≡ s .args .count = omega (arith, c .loop-test .left) in
-    v .loop .inv .1 ∙ ap (λ (k : ℕ). passed (counts-as (s .args .froms .now) (s .args .tos .now)) k (s .args .rules .now)) e
+    v .loop .inv .1 ∙ ap (λ (k : ℕ). passed (counts-as (s .args .froms .now) (s .args .tos .now) (s .args .end)) k (s .args .rules .now)) e
 
 pub replace-moves-spec : {M : Type 1} → statement M
 replace-moves-spec =
@@ -106,7 +106,7 @@ replace-moves-spec =
     μ-loop
     loop-holds
     (λ c. omega (arith, inside c))  -- mul-start
-    (λ c. omega (arith, inside c))  -- add-end
+    (λ c. omega (arith, inside c))  -- add-next
     (λ c. omega arith)  -- sub-replace-move
     (λ c. omega arith)  -- part-replace-move-start
     (λ c. omega (arith, inside c, same-size c))  -- part-replace-move-end

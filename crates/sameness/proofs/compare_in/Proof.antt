@@ -11,7 +11,8 @@ use mir.Syntax.{w32}
 use mir.ValLaws.{toZ-ofZ}
 use Rattle.answer.specs.Answer.{one-if, with-space}
 use Rattle.answer.proofs.Answers.{gives-refused, gives-done}
-use Rattle.alike_list.specs.AlikeTables.{alike-table, two-plans-alike}
+use Rattle.alike_list.specs.AlikeTables.{alike-table, listed-refusal, two-plans-alike}
+use Rattle.table.specs.Tables.{Loads}
 use Rattle.table.proofs.HeldTables.{Ready, plans-chain, plans-ready}
 use Rattle.workspace.proofs.UsablePart.{front-cleared}
 use Rattle.workspace.proofs.WithSpace.{space-chain, space-passed}
@@ -20,8 +21,11 @@ use Rattle.sameness.proofs.compare_in.Tie as tie
 
 -- once all checks are made
 module _ (c : tie.After-or-else2) where
+  abbrev listed : tie.After-replace
+  listed = c .before .before .before .before .before .before .before
+
   abbrev loaded : tie.After-load
-  loaded = c .before .before .before .before .before .before .before
+  loaded = listed .before .before
 
   abbrev start : tie.Start
   start = loaded .before .before .before .before .before .before
@@ -41,17 +45,23 @@ module _ (c : tie.After-or-else2) where
   abbrev q : List ℕ
   q = start .args .right .now
 
+  abbrev rules : List ℕ
+  rules = listed .replace .last .1 .1 .0
+
+  held : let l = loaded .load .result in Loads (listed-refusal bs ls) (alike-table bs ls) (listed .replace .result) (l .jobs) (l .end) rules (l .norms)
+  held = listed .replace .ensures _ _ _ _ (loaded .load .ensures)
+
   refusal-is : c .or-else2 .result ≡ with-space (start .args .space .now) (two-plans-alike bs ls p q)
   refusal-is =
       space-chain (start .args .space .now) (c .before .before .refusal .ensures) (c .or-else2 .ensures)
-      (plans-chain (loaded .load .ensures) p q (checked .plans-refusal .ensures) (c .before .or-else .ensures))
+      (plans-chain held p q (checked .plans-refusal .ensures) (c .before .or-else .ensures))
 
   module _ (z : c .or-else2 .result ≡ 0) where
     passed : (65536 ≤ length (start .args .space .now)) × (c .before .or-else .result ≡ 0)
     passed = space-passed (start .args .space .now) (c .before .before .refusal .ensures) (c .or-else2 .ensures) z
 
-    ready : let l = loaded .load .result in Ready (alike-table bs ls) (l .jobs) (take (l .end) (l .rules)) (l .norms) p × Ready (alike-table bs ls) (l .jobs) (take (l .end) (l .rules)) (l .norms) q
-    ready = plans-ready (loaded .load .ensures) p q (checked .plans-refusal .ensures) (c .before .or-else .ensures) (passed .1)
+    ready : let l = loaded .load .result in Ready (alike-table bs ls) (l .jobs) (take (l .end) rules) (l .norms) p × Ready (alike-table bs ls) (l .jobs) (take (l .end) rules) (l .norms) q
+    ready = plans-ready held p q (checked .plans-refusal .ensures) (c .before .or-else .ensures) (passed .1)
 
 returns : tie.Need-returns
 returns c = record {
@@ -90,6 +100,7 @@ compare-in-spec =
     tie.close
     (tie.spec
     (λ c κs. search needs)  -- load-requires
+    (λ c κs. let l = c .before .load .ensures in (l .inside, l .size))  -- replace-requires
     (λ c κs. search needs)  -- plans-refusal-requires
     (λ c κs. search needs)  -- refusal-requires
     (λ c κs. search needs)  -- or-else-requires

@@ -9,7 +9,8 @@ use mir.Syntax.{w32}
 use mir.ValLaws.{toZ-ofZ}
 use Rattle.answer.specs.Answer.{with-space}
 use Rattle.answer.proofs.Answers.{writes-refused, writes-done}
-use Rattle.alike_list.specs.AlikeTables.{alike-table, one-plan-alike}
+use Rattle.alike_list.specs.AlikeTables.{alike-table, listed-refusal, one-plan-alike}
+use Rattle.table.specs.Tables.{Loads}
 use Rattle.table.proofs.HeldTables.{Ready, plan-chain, plan-ready}
 use Rattle.workspace.proofs.UsablePart.{front-cleared}
 use Rattle.workspace.proofs.WithSpace.{space-chain, space-passed}
@@ -18,8 +19,11 @@ use Rattle.sameness.proofs.form_in.Tie as tie
 
 -- once all checks are made
 module _ (c : tie.After-or-else2) where
+  abbrev listed : tie.After-replace
+  listed = c .before .before .before .before .before .before .before
+
   abbrev loaded : tie.After-load
-  loaded = c .before .before .before .before .before .before .before
+  loaded = listed .before .before
 
   abbrev start : tie.Start
   start = loaded .before .before .before .before .before .before
@@ -36,17 +40,23 @@ module _ (c : tie.After-or-else2) where
   abbrev p : List ℕ
   p = start .args .plan .now
 
+  abbrev rules : List ℕ
+  rules = listed .replace .last .1 .1 .0
+
+  held : let l = loaded .load .result in Loads (listed-refusal bs ls) (alike-table bs ls) (listed .replace .result) (l .jobs) (l .end) rules (l .norms)
+  held = listed .replace .ensures _ _ _ _ (loaded .load .ensures)
+
   refusal-is : c .or-else2 .result ≡ with-space (start .args .space .now) (one-plan-alike bs ls p)
   refusal-is =
       space-chain (start .args .space .now) (c .before .before .refusal .ensures) (c .or-else2 .ensures)
-      (plan-chain (loaded .load .ensures) p (checked .plan-refusal .ensures) (c .before .or-else .ensures))
+      (plan-chain held p (checked .plan-refusal .ensures) (c .before .or-else .ensures))
 
   module _ (z : c .or-else2 .result ≡ 0) where
     passed : (65536 ≤ length (start .args .space .now)) × (c .before .or-else .result ≡ 0)
     passed = space-passed (start .args .space .now) (c .before .before .refusal .ensures) (c .or-else2 .ensures) z
 
-    ready : let l = loaded .load .result in Ready (alike-table bs ls) (l .jobs) (take (l .end) (l .rules)) (l .norms) p
-    ready = plan-ready (loaded .load .ensures) p (checked .plan-refusal .ensures) (c .before .or-else .ensures) (passed .1)
+    ready : let l = loaded .load .result in Ready (alike-table bs ls) (l .jobs) (take (l .end) rules) (l .norms) p
+    ready = plan-ready held p (checked .plan-refusal .ensures) (c .before .or-else .ensures) (passed .1)
 
 returns : tie.Need-returns
 returns c = record {
@@ -84,6 +94,7 @@ form-in-spec =
     tie.close
     (tie.spec
     (λ c κs. search needs)  -- load-requires
+    (λ c κs. let l = c .before .load .ensures in (l .inside, l .size))  -- replace-requires
     (λ c κs. search needs)  -- plan-refusal-requires
     (λ c κs. search needs)  -- refusal-requires
     (λ c κs. search needs)  -- or-else-requires
