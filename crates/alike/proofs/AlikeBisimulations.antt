@@ -1,6 +1,5 @@
 -- A BISIMULATION ON THE REPLACED TABLE is exactly one on the table in which moves match when they are equal after replacement. Assumes nothing.
-use mathlib.Core.Path.{_≡_, refl, sym, subst, _∙_}
-use mathlib.Core.Bool.{true}
+use mathlib.Core.Path.{sym, subst, _∙_}
 use mathlib.Core.List.{List}
 use mathlib.Core.Logic.{_↔_}
 use Prim.Native.Nat.{ℕ}

@@ -1,16 +1,15 @@
 -- A LIST CLASHES exactly if a from-move stands at two places, or a from-move is the to-move of some pair. Assumes nothing.
 use mathlib.Core.Path.{_≡_, refl, sym, ap, subst, _∙_}
 use mathlib.Core.Bool.{Bool, true, false, _||_, true≢false}
-use mathlib.Core.List.{List, [], _∷_, _++_, map, append-assoc, append-nil}
+use mathlib.Core.List.{List, [], _∷_, _++_, append-assoc, append-nil}
 use mathlib.Core.Logic.{_↔_, _⊎_, inl, inr, ⊎-elim}
 use Prim.Native.Nat.{ℕ, zero, suc, _+_, _≤_, _<_}
 use native.Mathlib.Omega.{arith}
 use lib.Dec.{eqb}
 use lib.ListN.{length, getD, take}
 use borrow.Author.Tests.{eqb-true, eq-eqb}
-use Rattle.bpa.proofs.Basics.Cases.{by-test, or-cases, or-left, or-right, never-both}
+use Rattle.bpa.proofs.Basics.Cases.{by-test, or-cases, or-left, or-right, or-none, never-both}
 use Rattle.alike.specs.Alike.{Pair, is-from, from-twice, from-as-to, clashes, froms, tos, FromTwice, FromAsTo}
-use Rattle.alike.proofs.ReplacedMoves.{or-none, from-append}
 
 -- a from-move has a place
 pub from-place : (ps : List Pair) (a : ℕ) → is-from ps a ≡ true → (i : ℕ) × (i < length ps) × (getD (froms ps) i 0 ≡ a)

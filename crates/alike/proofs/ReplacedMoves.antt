@@ -6,14 +6,9 @@ use mathlib.Core.List.{List, [], _∷_, _++_, List·Memᴰ, List·Memᴰ·head, 
 use mathlib.Core.Logic.{⊎-elim}
 use Prim.Native.Nat.{ℕ}
 use lib.Dec.{eqb}
-use borrow.Author.Tests.{eqb-true, eqb-false, eq-eqb}
-use Rattle.bpa.proofs.Basics.Cases.{by-test, or-left, or-right, is-false, never-both}
+use borrow.Author.Tests.{eqb-true, eq-eqb}
+use Rattle.bpa.proofs.Basics.Cases.{by-test, or-left, or-none, is-false, never-both}
 use Rattle.alike.specs.Alike.{Pair, replace, is-from, from-twice, from-as-to, clashes}
-
--- neither of two tests
-pub or-none : (a b : Bool) → (a || b) ≡ false → (a ≡ false) × (b ≡ false)
-or-none true b h = absurd (true≢false h)
-or-none false b h = (refl, h)
 
 -- a move that is no from-move counts as itself
 pub not-from : (ps : List Pair) (a : ℕ) → is-from ps a ≡ false → replace ps a ≡ a

@@ -9,11 +9,11 @@ use lib.Dec.{eqb}
 use lib.ListN.{length, getD, take, replicate, length-append, length-map, length-replicate, List·getD-append}
 use lib.Seq.{take-length, take-append-add}
 use borrow.Author.Tests.{eqb-true}
-use Rattle.bpa.proofs.Basics.Cases.{by-test}
+use Rattle.bpa.proofs.Basics.Cases.{by-test, or-none}
 use Rattle.alike.specs.Alike.{Pair, replace, is-from, from-twice, clashes, froms, tos}
-use Rattle.alike.proofs.ReplacedMoves.{or-none, not-from, from-pair, first-new}
+use Rattle.alike.proofs.ReplacedMoves.{not-from, from-pair, first-new}
 use Rattle.alike.proofs.ListClashes.{place-from}
-use Rattle.alike_list.specs.PairArrays.{filled-froms, filled-tos, stands-in, sum-at, counts-as, MoveArrays, HoldsPairs}
+use Rattle.alike_list.specs.PairArrays.{filled-froms, filled-tos, stands-in, sum-at, counts-as, HoldsPairs}
 use Rattle.alike_list.proofs.FilledRows.{filled-up, stands-filled}
 
 sum-append : (fs ts xs ys : List ℕ) (a : ℕ) → length fs ≡ length ts → sum-at (fs ++ xs) (ts ++ ys) a ≡ sum-at fs ts a + sum-at xs ys a

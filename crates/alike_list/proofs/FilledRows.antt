@@ -3,10 +3,10 @@ use mathlib.Core.Path.{_≡_, refl, sym, ap, _∙_}
 use mathlib.Core.Bool.{Bool, true, _||_, or-assoc, true≢false}
 use mathlib.Core.List.{List, [], _∷_, _++_, map, map-append}
 use mathlib.Core.Logic.{⊎-elim}
-use Prim.Native.Nat.{ℕ, zero, suc, _+_, _-_, _≤_, _<_, min}
+use Prim.Native.Nat.{ℕ, zero, suc, _+_, _-_, _≤_, _<_}
 use native.Mathlib.Omega.{arith}
 use lib.Dec.{eqb}
-use lib.ListN.{length, getD, take, drop, set, replicate, length-append, length-take, length-replicate, length-map}
+use lib.ListN.{length, take, set, replicate, length-append, length-take, length-replicate, length-map}
 use lib.Seq.{set-at, append-snoc}
 use borrow.Author.Tests.{eqb-true}
 use Rattle.bpa.proofs.Basics.Cases.{same-test, or-cases, or-left}

@@ -1,17 +1,17 @@
 -- How refusals 12 and 13 of a list come about, and the list that neither meets. Assumes nothing.
-use mathlib.Core.Path.{_≡_, refl, sym, ap, _∙_}
+use mathlib.Core.Path.{_≡_, sym, ap, _∙_}
 use mathlib.Core.Bool.{Bool, true, false, _||_, cond}
-use mathlib.Core.List.{List, []}
+use mathlib.Core.List.{List}
 use Prim.Native.Nat.{ℕ, _+_, _*_, _/_, _%_, _≤_, _<_}
 use native.Mathlib.Omega.{arith}
 use lib.Dec.{ltb}
-use lib.ListN.{length, getD}
+use lib.ListN.{length}
 use borrow.Author.Tests.{lt-ltb, le-ltb, ltb-false}
 use Rattle.bpa.proofs.Basics.Cases.{or-left, or-right}
 use Rattle.answer.proofs.RefusalChains.{refused-first, passed-first}
-use Rattle.alike.specs.Alike.{from-twice, from-as-to, clashes}
+use Rattle.alike.specs.Alike.{clashes}
 use Rattle.alike_list.specs.AlikeLists.{pair-count, alike-pairs, pairs-refusal, clash-refusal, alike-refusal}
-use Rattle.alike_list.specs.PairArrays.{WholePairs, filled-froms, filled-tos, ReadsList, ReadsFroms, ReadsTos}
+use Rattle.alike_list.specs.PairArrays.{WholePairs, ReadsList, ReadsFroms, ReadsTos}
 use Rattle.alike_list.proofs.PairLists.{whole-length}
 use Rattle.alike_list.proofs.CountedMoves.{rows-hold}
 

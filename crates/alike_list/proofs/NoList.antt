@@ -1,23 +1,17 @@
 -- A LIST OF LENGTH 0 IS NO LIST: the table and the refusals are those without one. Assumes nothing.
-use mathlib.Core.Path.{_≡_, refl, ap, ap₂, _∙_}
+use mathlib.Core.Path.{_≡_, ap₂}
 use mathlib.Core.List.{List, []}
-use Prim.Native.Nat.{ℕ, zero, suc}
-use native.Mathlib.Omega.{arith}
+use Prim.Native.Nat.{ℕ}
 use Rattle.bpa.specs.Plans.{Table}
 use Rattle.answer.specs.Refusals.{or-else}
-use Rattle.answer.proofs.RefusalChains.{refused-first, passed-first}
+use Rattle.answer.proofs.RefusalChains.{then-none}
 use Rattle.refusal.specs.Refusals.{plan-refusal, plans-refusal}
 use Rattle.image.specs.Image.{image-refusal, table-in}
 use Rattle.table.specs.CallRefusals.{one-plan, two-plans}
 use Rattle.alike.specs.Alike.{from-twice, from-as-to, clashes, replaced}
 use Rattle.alike.proofs.ReplacedTables.{replaced-none}
 use Rattle.alike_list.specs.AlikeLists.{pairs-in, pair-count, alike-pairs, pairs-refusal, clash-refusal, alike-refusal}
-use Rattle.alike_list.specs.AlikeTables.{alike-table, listed-refusal, one-plan-alike, two-plans-alike}
-
--- none after a refusal is that refusal
-then-none : (f : ℕ) → or-else f 0 ≡ f
-then-none zero = passed-first 0 0 refl
-then-none (suc f) = refused-first (suc f) 0 (λ z. omega (arith, z))
+use Rattle.alike_list.specs.AlikeTables.{one-plan-alike, two-plans-alike}
 
 pub no-refusal : (f : ℕ) → or-else f (alike-refusal []) ≡ f
 unfolding or-else alike-refusal pairs-refusal clash-refusal alike-pairs pair-count pairs-in clashes from-twice from-as-to

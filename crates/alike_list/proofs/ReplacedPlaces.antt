@@ -1,31 +1,22 @@
 -- Places with other moves: each is a place of 8 bytes with its job and its row as they were, so the rules are those with their moves
 -- replaced, and a good list stays good. Assumes nothing.
-use mathlib.Core.Path.{_≡_, refl, sym, ap, ap₂, subst, _∙_}
-use mathlib.Core.Bool.{Bool, true, false, _&&_, cond}
+use mathlib.Core.Path.{_≡_, refl, sym, ap, ap₂, _∙_}
+use mathlib.Core.Bool.{true, _&&_}
 use mathlib.Core.List.{List, [], _∷_, _++_, map, append-assoc, append-nil}
 use Prim.Native.Nat.{ℕ, zero, suc, _+_, _*_, _-_, _/_, _%_, _≤_, _<_}
-use native.Mathlib.Nat.{sub-zero}
 use native.Mathlib.Omega.{arith}
 use lib.Dec.{ltb, leb}
-use lib.ListN.{length, getD, take, drop, length-append, length-take, length-drop}
-use lib.Seq.{length-take-le, take-at, drop-at, take-nil, take-take, take-append-le, drop-drop}
-use borrow.Author.Tests.{leb-true, lt-leb}
+use lib.ListN.{length, getD, take, drop, length-append, length-drop}
+use lib.Seq.{length-take-le, take-at, drop-at, take-take, take-append-le, drop-drop}
+use borrow.Author.Tests.{leb-true}
 use Rattle.bpa.specs.Plans.{Rule, all-below}
 use Rattle.bpa.proofs.Basics.Cases.{by-test, and-left, and-right}
 use Rattle.area.specs.Areas.{put}
 use Rattle.rules.specs.Places.{all-zero, move-in, rule-in, place-good, each-place, places-good, rules-in}
 use Rattle.rules.proofs.ListLaws.{place-next}
 use Rattle.rules.proofs.PlaceBack.{after-few}
+use Rattle.image.proofs.PlaceRows.{drop-take}
 use Rattle.alike_list.specs.PairArrays.{with-move, with-moves}
-
--- what is left of a front
-drop-front : (n m : ℕ) (l : List ℕ) → n ≤ m → drop n (take m l) ≡ take (m - n) (drop n l)
-drop-front zero m l h = ap (λ (k : ℕ). take k l) (sym (sub-zero m))
-drop-front (suc n) zero l h = absurd (omega arith)
-drop-front (suc n) (suc m) [] h = sym (take-nil (suc m - suc n))
-drop-front (suc n) (suc m) (x ∷ l) h =
-    let e : m - n ≡ suc m - suc n = omega arith in
-    drop-front n m l (omega arith) ∙ ap (λ (k : ℕ). take k (drop n l)) e
 
 -- a place has eight bytes
 pub data Place : List ℕ → Type 0 where
@@ -125,7 +116,8 @@ module _ (f : ℕ → ℕ) where
   moves-front zero m xs h = refl
   moves-front (suc k) m xs h =
       let e : take 8 (take m xs) ≡ take 8 xs = take-take 8 m xs (omega arith) in
-      let d : drop 8 (take m xs) ≡ take (m - 8) (drop 8 xs) = drop-front 8 m xs (omega arith) in
+      let eight-more : m ≡ 8 + (m - 8) = omega arith in
+      let d : drop 8 (take m xs) ≡ take (m - 8) (drop 8 xs) = ap (λ (n : ℕ). drop 8 (take n xs)) eight-more ∙ drop-take 8 (m - 8) xs in
       ap₂ (λ (a b : List ℕ). with-move (f (move-in a)) a ++ with-moves f k b) e d
       ∙ ap (λ (l : List ℕ). with-move (f (move-in (take 8 xs))) (take 8 xs) ++ l) (moves-front k (m - 8) (drop 8 xs) (omega arith))
 

@@ -17,6 +17,11 @@ pub passed-first : (f g : ℕ) → f ≡ 0 → or-else f g ≡ g
 unfolding or-else
 passed-first f g h = ap (λ (x : ℕ). cond (eqb x 0) g x) h
 
+-- a refusal, then none
+pub then-none : (f : ℕ) → or-else f 0 ≡ f
+then-none zero = passed-first 0 0 refl
+then-none (suc f) = refused-first (suc f) 0 (λ z. omega (arith, z))
+
 -- neither of two
 pub neither : (f g : ℕ) → or-else f g ≡ 0 → (f ≡ 0) × (g ≡ 0)
 unfolding or-else

@@ -2,7 +2,7 @@
 use mathlib.Core.Path.{_≡_, refl, sym, ap, subst, _∙_}
 use mathlib.Core.Bool.{Bool, true, false, _||_, cond}
 use mathlib.Core.List.{List}
-use mathlib.Core.Logic.{_↔_, _⊎_, inl, inr, ⊎-elim}
+use mathlib.Core.Logic.{_⊎_, inl, inr, ⊎-elim}
 use Prim.Native.Nat.{ℕ, _/_, _%_, _≤_, _<_}
 use native.Mathlib.Omega.{arith}
 use lib.Dec.{ltb}
@@ -10,14 +10,14 @@ use lib.ListN.{length, getD}
 use borrow.Author.Tests.{ltb-true, lt-ltb}
 use Rattle.bpa.specs.Plans.{Table, over, Step}
 use Rattle.bpa.specs.Norms.{sum-of, norms, norm, Good}
-use Rattle.bpa.specs.Bisimilar.{Bisimulation, Bisimilar}
+use Rattle.bpa.specs.Bisimilar.{Bisimulation}
 use Rattle.bpa.proofs.Basics.Cases.{by-test, or-cases, or-left, or-right, is-false}
 use Rattle.answer.specs.Refusals.{or-else}
 use Rattle.answer.proofs.RefusalChains.{refused-first, passed-first, neither}
 use Rattle.refusal.specs.Refusals.{jobs-refusal, sum-refusal, plan-refusal, plans-refusal, Accepted}
 use Rattle.image.specs.Image.{image-refusal, table-in}
 use Rattle.table.proofs.ImageTables.{image-table}
-use Rattle.alike.specs.Alike.{Pair, replace, replaced, is-from, clashes, Alike-bisimulation}
+use Rattle.alike.specs.Alike.{Pair, replaced, is-from, clashes, Alike-bisimulation}
 use Rattle.alike.proofs.ReplacedMoves as moves
 use Rattle.alike.proofs.ReplacedTables as tables
 use Rattle.alike.proofs.ListClashes.{clashes-exact}

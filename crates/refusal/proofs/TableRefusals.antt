@@ -10,15 +10,11 @@ use lib.ListN.{length, getD}
 use borrow.Author.Tests.{eqb-true, eqb-false, ltb-true, ltb-false}
 use Rattle.bpa.specs.Plans.{Table, over, HasRule}
 use Rattle.bpa.specs.Norms.{norms, Fewest, Endless}
-use Rattle.bpa.proofs.Basics.Cases.{by-test}
+use Rattle.bpa.proofs.Basics.Cases.{by-test, or-none}
 use Rattle.bpa.proofs.Norm.NormStable.{norms-length}
 use Rattle.bpa.proofs.Norm.NormExact.{job-norm, job-without}
 use Rattle.bpa.proofs.Norm.GoodTable.{finite-good}
 use Rattle.refusal.specs.Refusals.{any-zero, any-above, norms-refusal, table-refusal, Accepted}
-
-or-none : (a b : Bool) → (a || b) ≡ false → (a ≡ false) × (b ≡ false)
-or-none true b h = absurd (true≢false h)
-or-none false b h = (refl, h)
 
 -- what the two tests say of each number
 pub none-zero : (ns : List ℕ) → any-zero ns ≡ false → (j : ℕ) → j < length ns → 0 < getD ns j 0

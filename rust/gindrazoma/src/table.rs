@@ -131,6 +131,7 @@ impl Table {
     pub fn prime_form(&self, space: &mut Workspace, plan: &[u8]) -> Result<Vec<u8>, Refusal> {
         written(raw::FORM_MAX, |out| raw::prime_form(&self.image, plan, out, &mut space.0))
     }
+
     /// Whether two plans are bisimilar once the moves of all rules are replaced by an alike list.
     #[inline]
     pub fn same_alike(&self, space: &mut Workspace, alike: &Alike, left: &[u8], right: &[u8]) -> Result<bool, Refusal> {

@@ -16,7 +16,7 @@ const BOUND: f64 = 3.0;
 /// How long it may take for a run over a table made to be slow, in times of the plain program as it is written at first.
 const RUN_BOUND: f64 = 2.0;
 
-/// How long it may take under a list of 32 pairs with as many moves of rules, in times of the same without a list.
+/// How long it may take under a list of 32 pairs, whatever they are, in times of the same without a list.
 const LIST_BOUND: f64 = 1.1;
 
 fn main() -> ExitCode {
@@ -30,18 +30,15 @@ fn main() -> ExitCode {
     bench.hostile_tables();
     bench.growth();
     let most_of_runs = bench.shortest_runs(seed);
-    let [most_of_lists, slow_lists] = bench.alike_lists(seed);
+    let most_of_lists = bench.alike_lists(seed);
     let differ = bench.differ;
     print!("\n1,000 comparisons over one table take at most {most:.2} times as long as in the fastest plain program: ");
     print!(
         "{}; shortest runs over tables made to be slow at most {most_of_runs:.2} times as in the first: ",
         judged(most, BOUND)
     );
-    print!("{}; comparisons under an alike list at most {most_of_lists:.2} times as without: ", judged(most_of_runs, RUN_BOUND));
-    println!(
-        "{}, under lists made to be slow {slow_lists:.2} times; answers that differ: {differ}",
-        judged(most_of_lists, LIST_BOUND)
-    );
+    print!("{}; comparisons under alike lists at most {most_of_lists:.2} times as without: ", judged(most_of_runs, RUN_BOUND));
+    println!("{}; answers that differ: {differ}", judged(most_of_lists, LIST_BOUND));
     let hold = most <= BOUND && most_of_runs <= RUN_BOUND && most_of_lists <= LIST_BOUND;
     ExitCode::from(u8::from(!hold || differ > 0))
 }
@@ -165,8 +162,8 @@ impl Bench {
         library / first
     }
 
-    /// The worst ratios to the time without a list: under the first list, and under those made to be slow.
-    fn alike_lists(&mut self, seed: u64) -> [f64; 2] {
+    /// The worst ratio to the time without a list.
+    fn alike_lists(&mut self, seed: u64) -> f64 {
         println!(
             "\ncompare under alike lists of 32 pairs, the tables and pairs of the first section: milliseconds without a list"
         );
@@ -178,10 +175,9 @@ impl Bench {
         }
         let ratios: String = ALIKE[1..].iter().map(|(name, _)| format!("{:>8}", format!("{name}/"))).collect();
         println!("{:<28}{}{ratios}", "table", names(&ALIKE));
-        let mut most: [f64; 2] = [0.0; 2];
+        let mut most: f64 = 0.0;
         for i in 0..SINGLE_TABLES.len() {
-            let [list, slow @ ..] = self.times_under_lists(single_table(seed, i, 1000));
-            most = [most[0].max(list), slow.into_iter().fold(most[1], f64::max)];
+            most = self.times_under_lists(single_table(seed, i, 1000)).into_iter().fold(most, f64::max);
         }
         most
     }

@@ -1,8 +1,7 @@
 -- `alike_list::from_moves` meets its contract. The loop's invariant: the from-moves of the pairs passed stand in the row, and what was found
 -- with what is left tells whether one stands twice. Assumes nothing.
-use mathlib.Core.Path.{_≡_, refl, sym, subst, _∙_}
+use mathlib.Core.Path.{sym, subst, _∙_}
 use mathlib.Core.Bool.{Bool}
-use mathlib.Core.List.{List}
 use mathlib.Core.Logic.{⊎-elim}
 use Prim.Native.Nat.{_+_, _*_, _-_, _≤_, _<_}
 use native.Mathlib.Omega.{arith}

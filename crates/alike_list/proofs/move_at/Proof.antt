@@ -1,7 +1,6 @@
 -- `alike_list::move_at` meets its contract. Assumes nothing.
-use mathlib.Core.Path.{ap, _∙_}
+use mathlib.Core.Path.{_≡_, ap, _∙_}
 use Prim.Native.Nat.{ℕ, suc, _+_, _*_}
-use native.Mathlib.Numerals.{add-one}
 use native.Mathlib.Omega.{arith}
 use borrow.Author.Needs.{needs}
 use lib.ListN.{getD}
@@ -15,7 +14,11 @@ returns c =
     let s = c .before .before .before .before in
     let ls = s .args .list .now in
     let at = s .args .at in
-    record { is = rw add-one at (c .number .ensures .is); small = c .number .ensures .small }
+    let next : at + 1 ≡ suc at = omega arith in
+    record {
+      is = c .number .ensures .is ∙ ap (λ (i : ℕ). getD ls at 0 + 256 * getD ls i 0) next;
+      small = c .number .ensures .small;
+    }
 
 pub move-at-spec : {M : Type 1} → statement M
 move-at-spec =

@@ -15,7 +15,7 @@ use Rattle.alike_list.proofs.read_list.Tie as tie
 returns : tie.Need-returns
 returns c =
     let ls = c .before .before .args .list .now in
-    ⊎-elim (λ x. too-many ls (x .taken) _ _ _) (λ x. unfinished ls (x .1 .taken) _ _ _) (c .if1 .came)
+    ⊎-elim (λ x. too-many ls (omega (arith, x .taken)) _ _ _) (λ x. unfinished ls (x .1 .taken) _ _ _) (c .if1 .came)
 
 -- a list of whole pairs
 module _ (c : tie.Else2) where
@@ -23,7 +23,7 @@ module _ (c : tie.Else2) where
   ls = c .before .before .before .args .list .now
 
   whole : WholePairs ls (length ls / 4)
-  whole = whole-pairs ls (c .before .before .before .pre) (c .before .if1 .left) (c .if2 .left)
+  whole = whole-pairs ls (c .before .before .before .pre) (omega (arith, c .before .if1 .left)) (c .if2 .left)
 
 -- once both rows are read
 module _ (c : tie.After-tos) where
@@ -36,12 +36,12 @@ module _ (c : tie.After-tos) where
   returns-clash : (from-read .from-moves .result .clash || c .before .to-moves .result .clash) ≡ true →
       (n : ℕ) → ReadsList (ls early) 13 (from-read .from-moves .result .row) (c .before .to-moves .result .row) n
   returns-clash =
-      clashing (ls early) (early .before .before .before .pre) (early .before .if1 .left) (early .if2 .left) (from-read .from-moves .ensures) (c .before .to-moves .ensures)
+      clashing (ls early) (early .before .before .before .pre) (omega (arith, early .before .if1 .left)) (early .if2 .left) (from-read .from-moves .ensures) (c .before .to-moves .ensures)
 
   returns-none : (from-read .from-moves .result .clash || c .before .to-moves .result .clash) ≡ false →
       ReadsList (ls early) 0 (from-read .from-moves .result .row) (c .before .to-moves .result .row) ((length (ls early) / 4 + 15) / 16 * 16)
   returns-none =
-      accepted-list (ls early) (early .before .before .before .pre) (early .before .if1 .left) (early .if2 .left) (from-read .from-moves .ensures) (c .before .to-moves .ensures)
+      accepted-list (ls early) (early .before .before .before .pre) (omega (arith, early .before .if1 .left)) (early .if2 .left) (from-read .from-moves .ensures) (c .before .to-moves .ensures)
 
 returns-2 : tie.Need-returns-2
 returns-2 c =

@@ -1,6 +1,6 @@
 -- `alike_list::to_moves` meets its contract. The loop's invariant: the to-moves of the pairs passed stand in the row, and what was found
 -- with what is left tells whether one stands twice. Assumes nothing.
-use mathlib.Core.Path.{_≡_, sym, ap, subst, _∙_}
+use mathlib.Core.Path.{sym, ap, subst, _∙_}
 use mathlib.Core.Bool.{Bool}
 use mathlib.Core.List.{List}
 use mathlib.Core.Logic.{⊎-elim}

@@ -40,5 +40,10 @@ pub is-false : (b : Bool) → (b ≡ true → ⊥) → b ≡ false
 is-false true f = absurd (f refl)
 is-false false f = refl
 
+-- neither of two tests
+pub or-none : (a b : Bool) → (a || b) ≡ false → (a ≡ false) × (b ≡ false)
+or-none true b h = absurd (true≢false h)
+or-none false b h = (refl, h)
+
 pub never-both : (b : Bool) → b ≡ true → b ≡ false → ⊥
 never-both b h k = let z : _≡_ {A = Bool} true false = cc in true≢false z
