@@ -12,11 +12,11 @@ use borrow.Author.Tests.{leb-true}
 use Rattle.bpa.specs.Plans.{Rule, all-below}
 use Rattle.bpa.proofs.Basics.Cases.{by-test, and-left, and-right}
 use Rattle.area.specs.Areas.{put}
-use Rattle.rules.specs.Places.{all-zero, move-in, rule-in, place-good, each-place, places-good, rules-in}
+use Rattle.rules.specs.Places.{all-zero, move-in, with-move, rule-in, place-good, each-place, places-good, rules-in}
 use Rattle.rules.proofs.ListLaws.{place-next}
 use Rattle.rules.proofs.PlaceBack.{after-few}
 use Rattle.image.proofs.PlaceRows.{drop-take}
-use Rattle.alike_list.specs.PairArrays.{with-move, with-moves}
+use Rattle.alike_list.specs.PairArrays.{with-moves}
 
 -- a place has eight bytes
 pub data Place : List ℕ → Type 0 where

@@ -1,12 +1,11 @@
--- The pairs of a list in two arrays of 32 numbers, and a place of a list of rules with another move. Assumes nothing: these are definitions.
+-- The pairs of a list in two arrays of 32 numbers, and places of rules with other moves. Assumes nothing: these are definitions.
 use mathlib.Core.Path.{_≡_}
 use mathlib.Core.Bool.{Bool, false, _||_, cond}
 use mathlib.Core.List.{List, [], _∷_, _++_}
-use Prim.Native.Nat.{ℕ, zero, suc, _+_, _*_, _-_, _/_, _%_, _≤_, _<_}
+use Prim.Native.Nat.{ℕ, zero, suc, _+_, _*_, _-_, _≤_, _<_}
 use lib.Dec.{eqb}
 use lib.ListN.{length, getD, take, drop, replicate}
-use Rattle.area.specs.Areas.{put}
-use Rattle.rules.specs.Places.{move-in}
+use Rattle.rules.specs.Places.{move-in, with-move}
 use Rattle.alike.specs.Alike.{Pair, replace, from-twice, from-as-to, froms, tos}
 use Rattle.alike_list.specs.AlikeLists.{alike-pairs, alike-refusal}
 
@@ -65,10 +64,7 @@ pub record ReadsTos (ps : List Pair) (clash : Bool) (row : List ℕ) : Type 0 wh
   pub filled : row ≡ filled-tos ps
   pub small : (k : ℕ) → getD row k 0 < 65536
 
--- A PLACE WITH ANOTHER MOVE, and so many places each with the move that its own counts as
-unfoldable pub with-move : (move : ℕ) → (place : List ℕ) → List ℕ
-with-move v xs = put 7 ((v / 256) ∷ []) (put 1 ((v % 256) ∷ []) xs)
-
+-- SO MANY PLACES, each with the move that its own counts as
 unfoldable pub with-moves : (counts : ℕ → ℕ) → (left : ℕ) → (places : List ℕ) → List ℕ
 with-moves f zero xs = []
 with-moves f (suc k) xs = with-move (f (move-in (take 8 xs))) (take 8 xs) ++ with-moves f k (drop 8 xs)

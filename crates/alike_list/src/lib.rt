@@ -3,6 +3,8 @@
 // the last to-move stand zeros.
 use answer::or_else;
 use area::number;
+use rules::move_in;
+use rules::set_move;
 ghost use mathlib.Core.Path.{_≡_};
 ghost use mathlib.Core.List.{List, _++_};
 ghost use Prim.Native.Nat.{ℕ, _+_, _*_, _≤_, _<_};
@@ -10,12 +12,12 @@ ghost use lib.ListN.{length, take, drop};
 ghost use Rattle.area.specs.Numbers.{number-at};
 ghost use Rattle.bpa.specs.Plans.{Table};
 ghost use Rattle.answer.specs.Refusals as refusals;
-ghost use Rattle.rules.specs.Places.{move-in};
+ghost use Rattle.rules.specs.Places.{move-in, with-move};
 ghost use Rattle.rules.specs.Lists.{IsMove};
 ghost use Rattle.table.specs.Tables.{Loads};
 ghost use Rattle.alike.specs.Alike.{replaced};
 ghost use Rattle.alike_list.specs.AlikeLists.{alike-pairs, alike-refusal};
-ghost use Rattle.alike_list.specs.PairArrays.{WholePairs, filled-froms, stands-in, sum-at, counts-as, MoveArrays, ReadsList, ReadsFroms, ReadsTos, with-move, with-moves};
+ghost use Rattle.alike_list.specs.PairArrays.{WholePairs, filled-froms, stands-in, sum-at, counts-as, MoveArrays, ReadsList, ReadsFroms, ReadsTos, with-moves};
 
 // The from-moves or the to-moves of a list, and whether one of them clashes.
 pub struct Moves {
@@ -154,11 +156,9 @@ fn replace_move(place: &mut [u8], froms: &[u16; 32], tos: &[u16; 32], end: usize
     requires { ⌜ MoveArrays (now froms) (now tos) end ⌝ }
     ensures { λ _. ⌜ now (place .exit) ≡ with-move (counts-as (now (froms .entry)) (now (tos .entry)) end (move-in (now (place .entry)))) (now (place .entry)) ⌝ }
 {
-    let action = number(place[1], place[7]) as u16;
+    let action = move_in(place);
     if stands(froms, action) {
-        let to = to_move(froms, tos, end, action);
-        place[1] = (to % 256) as u8;
-        place[7] = (to / 256) as u8;
+        set_move(place, to_move(froms, tos, end, action));
     }
 }
 

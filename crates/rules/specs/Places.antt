@@ -4,6 +4,7 @@ use mathlib.Core.List.{List, [], _∷_, _++_}
 use Prim.Native.Nat.{ℕ, zero, suc, _+_, _*_, _-_, _/_, _%_}
 use lib.Dec.{ltb, leb, eqb}
 use lib.ListN.{length, getD, take, drop, replicate}
+use Rattle.area.specs.Areas.{put}
 use Rattle.bpa.specs.Plans.{Rule, Table, all-below}
 
 unfoldable pub all-zero : List ℕ → Bool
@@ -14,6 +15,10 @@ all-zero (b ∷ bs) = eqb b 0 && all-zero bs
 -- THE MOVE of a place: no other definition of today's format reads one
 unfoldable pub move-in : (place : List ℕ) → ℕ
 move-in xs = getD xs 1 0 + 256 * getD xs 7 0
+
+-- the place with another move
+unfoldable pub with-move : (move : ℕ) → (place : List ℕ) → List ℕ
+with-move v xs = put 7 ((v / 256) ∷ []) (put 1 ((v % 256) ∷ []) xs)
 
 -- its rule, if it is good
 unfoldable pub rule-in : (place : List ℕ) → Rule

@@ -8,7 +8,7 @@ ghost use lib.Dec.{eqb};
 ghost use lib.ListN.{length};
 ghost use Rattle.area.specs.Areas.{IsByte};
 ghost use Rattle.bpa.specs.Plans.{all-below};
-ghost use Rattle.rules.specs.Places.{rule-at, rule-count};
+ghost use Rattle.rules.specs.Places.{move-in, with-move, rule-at, rule-count};
 ghost use Rattle.rules.specs.Lists.{HasPlace, IsMove, IsCount};
 
 // How many rules a list holds.
@@ -33,6 +33,23 @@ pub fn rule_move(rules: &[u8], i: usize) -> u32
     ensures { λ r. ⌜ IsMove (rule-at (now (rules .entry)) i .move) r ⌝ }
 {
     number(rules[8 * i + 1], rules[8 * i + 7]) as u32
+}
+
+// The move of a place by itself.
+pub fn move_in(place: &[u8]) -> u16
+    requires { ⌜ length (now place) ≡ 8 ⌝ }
+    ensures { λ r. ⌜ IsMove (move-in (now (place .entry))) r ⌝ }
+{
+    number(place[1], place[7]) as u16
+}
+
+// Gives a place another move.
+pub fn set_move(place: &mut [u8], action: u16)
+    requires { ⌜ length (now place) ≡ 8 ⌝ }
+    ensures { λ _. ⌜ now (place .exit) ≡ with-move action (now (place .entry)) ⌝ }
+{
+    place[1] = (action % 256) as u8;
+    place[7] = (action / 256) as u8;
 }
 
 // Whether the moves of two rules differ in their low bytes, and whether in their high ones: apart, because most moves that differ do so in the low

@@ -7,8 +7,8 @@ use native.Mathlib.Omega.{arith}
 use borrow.Rule.Slice.PartMut.{putMid, postOf}
 use lib.ListN.{length, take, drop, length-append, length-drop, length-take}
 use lib.Seq.{take-at, drop-at, drop-drop}
-use Rattle.rules.specs.Places.{move-in}
-use Rattle.alike_list.specs.PairArrays.{counts-as, with-move, with-moves}
+use Rattle.rules.specs.Places.{move-in, with-move}
+use Rattle.alike_list.specs.PairArrays.{counts-as, with-moves}
 use Rattle.alike_list.proofs.ReplacedPlaces.{place-at, moves-length, moves-more}
 use Rattle.alike_list.proofs.replace_moves.Statement.{statement}
 use Rattle.alike_list.proofs.replace_moves.Tie as tie
