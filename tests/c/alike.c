@@ -7,7 +7,7 @@
 #include <string.h>
 #include <sys/mman.h>
 
-enum { SPACE = 65536, PAIRS = 32, FORM = 4096 };
+enum { PAIRS = 32, FORM = 4096 };
 
 /* The image and the alike list in force. */
 static uint8_t image[2560], list[4 * (PAIRS + 8)];
@@ -71,17 +71,6 @@ static int refusal_of_pairs(void)
     return 0;
 }
 
-/* The workspace after a call: untouched after refusal 1, else zero at its start and untouched behind. */
-static void space_left(const struct area *space, int32_t answer)
-{
-    if (answer == -1) {
-        CHECK(area_kept(space, 0));
-    } else {
-        CHECK(area_zero(space, SPACE));
-        CHECK(area_kept(space, SPACE));
-    }
-}
-
 static int32_t compare_in(const uint8_t *p, size_t m, const uint8_t *q, size_t n, size_t space_len)
 {
     struct area in = area_copy(image, image_len), pairs = area_copy(list, list_len);
@@ -141,15 +130,6 @@ static int32_t quick_form(const uint8_t *p, size_t n, uint8_t *form)
     CHECK(area_same(&pairs));
     area_free(&pairs);
     return got;
-}
-
-/* Plans are written as text, a letter for each job from A on. */
-static size_t plan_of(const char *text, uint8_t *plan)
-{
-    size_t n = strlen(text);
-    for (size_t i = 0; i < n; i++)
-        plan[i] = (uint8_t)(text[i] - 'A');
-    return n;
 }
 
 /* Two plans have equal forms exactly if they are the same. */

@@ -155,3 +155,13 @@ void area_free(struct area *a)
         free(a->block);
     free(a->before);
 }
+
+void space_left(const struct area *space, int32_t answer)
+{
+    if (answer == -1) {
+        CHECK(area_kept(space, 0));
+    } else {
+        CHECK(area_zero(space, SPACE));
+        CHECK(area_kept(space, SPACE));
+    }
+}

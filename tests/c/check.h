@@ -46,6 +46,11 @@ int area_same(const struct area *a);                  /* an area to read from is
 int area_zero(const struct area *a, size_t len);      /* that many bytes are zero */
 void area_free(struct area *a);
 
+enum { SPACE = 65536 }; /* bytes that a workspace needs */
+
+/* The workspace after a call: untouched after refusal 1, else zero at its start and untouched behind. */
+void space_left(const struct area *space, int32_t answer);
+
 /* Tables as a job count and 8-byte rules. */
 struct table {
     uint32_t jobs;
@@ -72,6 +77,9 @@ struct table table_repeated(void);   /* one job with 84 different rules, each th
 
 enum { EDGES = 6 };
 struct table table_edges(void);      /* a job each for the moves 0, 255, 256, 65,535, 'a' and 'a' + 256 */
+
+/* A plan from text, a letter for each job from A on; its length. */
+size_t plan_of(const char *text, uint8_t *plan);
 
 /* The refusal of an image or a rule list, 2 to 7 or 0 for none, worked out from the documents. */
 int refusal_of_image(const uint8_t *image, size_t len);

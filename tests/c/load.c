@@ -8,7 +8,7 @@
 #include <stdlib.h>
 #include <string.h>
 
-enum { SPACE = 65536, OUT = 8192, TABLES = 7, CALLS = 512, KINDS = 9, THREADS = 8, STACK = 1 << 20 };
+enum { OUT = 8192, TABLES = 7, CALLS = 512, KINDS = 9, THREADS = 8, STACK = 1 << 20 };
 
 static struct table tables[TABLES];
 static uint8_t images[TABLES][2560];

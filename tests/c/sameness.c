@@ -6,25 +6,12 @@
 #include <stdlib.h>
 #include <string.h>
 
-enum { SPACE = 65536 };
-
 static uint8_t image[2560];
 static size_t image_len;
 
 static void use(const struct table *t)
 {
     image_len = image_of(t, image);
-}
-
-/* The workspace after a call: untouched after refusal 1, else zero at its start and untouched behind. */
-static void space_left(const struct area *space, int32_t answer)
-{
-    if (answer == -1) {
-        CHECK(area_kept(space, 0));
-    } else {
-        CHECK(area_zero(space, SPACE));
-        CHECK(area_kept(space, SPACE));
-    }
 }
 
 static int32_t compare_in(const uint8_t *p, size_t m, const uint8_t *q, size_t n, size_t space_len)
@@ -54,15 +41,6 @@ static int32_t form_in(const uint8_t *p, size_t n, const uint8_t *wanted, int32_
     area_free(&out);
     area_free(&space);
     return got;
-}
-
-/* Plans are written as text, a letter for each job from A on. */
-static size_t plan_of(const char *text, uint8_t *plan)
-{
-    size_t n = strlen(text);
-    for (size_t i = 0; i < n; i++)
-        plan[i] = (uint8_t)(text[i] - 'A');
-    return n;
 }
 
 static void compared(const char *left, const char *right, int32_t want)

@@ -71,6 +71,14 @@ size_t image_of(const struct table *t, uint8_t *image)
     return 512 * blocks;
 }
 
+size_t plan_of(const char *text, uint8_t *plan)
+{
+    size_t n = strlen(text);
+    for (size_t i = 0; i < n; i++)
+        plan[i] = (uint8_t)(text[i] - 'A');
+    return n;
+}
+
 struct table table_t(void)
 {
     struct table t = table_new(4);
