@@ -3,6 +3,7 @@
 #include "check.h"
 #include "gindrazoma.h"
 
+#include <stdio.h>
 #include <stdlib.h>
 #include <string.h>
 #include <sys/mman.h>
@@ -888,8 +889,10 @@ static void lengths_above_32_bits(void)
     const size_t four_gib = (size_t)1 << 31 << 1;
     uint8_t *space = one_space(), out[4], plan = 1;
     void *bytes = mmap(NULL, four_gib + 4, PROT_READ, MAP_PRIVATE | MAP_ANONYMOUS | MAP_NORESERVE, -1, 0);
-    if (four_gib == 0 || bytes == MAP_FAILED)
+    if (four_gib == 0 || bytes == MAP_FAILED) {
+        puts("lengths above 32 bits were not tried: there is no memory of that length to reserve");
         return;
+    }
     use_letters();
     for (size_t len = four_gib; len <= four_gib + 4; len += 4) {
         CHECK_EQ(gindrazoma_compare_alike(image, image_len, bytes, len, &plan, 1, &plan, 1, space, SPACE), -12);
