@@ -2,17 +2,17 @@
 -- counts as counts as itself. Assumes nothing.
 use mathlib.Core.Path.{_≡_, refl, sym, ap, subst, _∙_}
 use mathlib.Core.Bool.{Bool, true, false, _||_, cond, or-assoc, true≢false}
-use mathlib.Core.List.{List, [], _∷_, _++_, List·Memᴰ, List·Memᴰ·head, List·Memᴰ·tail, List·Memᴰ·cases-cons, List·Memᴰ·not-nil}
+use mathlib.Core.List.{List, [], _∷_, _++_, map-append, List·Memᴰ, List·Memᴰ·head, List·Memᴰ·tail, List·Memᴰ·cases-cons, List·Memᴰ·not-nil}
 use mathlib.Core.Logic.{⊎-elim}
 use Prim.Native.Nat.{ℕ}
 use lib.Dec.{eqb}
 use borrow.Author.Tests.{eqb-true, eq-eqb}
 use Rattle.bpa.proofs.Basics.Cases.{by-test, or-left, or-none, is-false, never-both}
-use Rattle.alike.specs.Alike.{Pair, replace, is-from, from-twice, from-as-to, clashes}
+use Rattle.alike.specs.Alike.{Pair, replace, froms, stands-in, is-from, from-twice, from-as-to, clashes}
 
 -- a move that is no from-move counts as itself
 pub not-from : (ps : List Pair) (a : ℕ) → is-from ps a ≡ false → replace ps a ≡ a
-unfolding is-from replace
+unfolding stands-in replace
 not-from [] a h = refl
 not-from (p ∷ ps) a h =
     let (e, k) = or-none (eqb (p .from) a) (is-from ps a) h in
@@ -20,7 +20,7 @@ not-from (p ∷ ps) a h =
 
 -- a from-move counts as the to-move of a pair whose from-move it is
 pub from-pair : (ps : List Pair) (a : ℕ) → is-from ps a ≡ true → (p : Pair) × List·Memᴰ p ps × (p .from ≡ a) × (replace ps a ≡ p .to)
-unfolding is-from replace
+unfolding stands-in replace
 from-pair [] a h = absurd (true≢false (sym h))
 from-pair (q ∷ ps) a h =
     by-test (eqb (q .from) a)
@@ -29,12 +29,15 @@ from-pair (q ∷ ps) a h =
     let (p, m, f, r) = from-pair ps a (subst (λ (b : Bool). (b || is-from ps a) ≡ true) e h) in
     (p, List·Memᴰ·tail m, f, ap (λ (b : Bool). cond b (q .to) (replace ps a)) e ∙ r))
 
--- from-moves of two lists
-pub from-append : (ps qs : List Pair) (a : ℕ) → is-from (ps ++ qs) a ≡ (is-from ps a || is-from qs a)
-unfolding is-from
-from-append [] qs a = refl
-from-append (p ∷ ps) qs a =
-    ap (λ (b : Bool). eqb (p .from) a || b) (from-append ps qs a) ∙ sym (or-assoc (eqb (p .from) a) (is-from ps a) (is-from qs a))
+-- what stands in two rows, and from-moves of two lists
+pub stands-append : (xs ys : List ℕ) (v : ℕ) → stands-in (xs ++ ys) v ≡ (stands-in xs v || stands-in ys v)
+unfolding stands-in
+stands-append [] ys v = refl
+stands-append (x ∷ xs) ys v =
+    ap (λ (b : Bool). eqb x v || b) (stands-append xs ys v) ∙ sym (or-assoc (eqb x v) (stands-in xs v) (stands-in ys v))
+
+from-append : (ps qs : List Pair) (a : ℕ) → is-from (ps ++ qs) a ≡ (is-from ps a || is-from qs a)
+from-append ps qs a = ap (λ (l : List ℕ). stands-in l a) (map-append (λ (p : Pair). p .from) ps qs) ∙ stands-append (froms ps) (froms qs) a
 
 -- if no from-move stands twice, none of the pairs has one of the earlier ones
 later-new : (qs ps : List Pair) (p : Pair) → from-twice qs ps ≡ false → List·Memᴰ p ps → is-from qs (p .from) ≡ false
@@ -49,7 +52,7 @@ later-new qs (q ∷ ps) p h m =
 
 -- nor is the first of them met again
 pub first-new : (qs ps : List Pair) (q : Pair) → from-twice (qs ++ (q ∷ [])) ps ≡ false → is-from ps (q .from) ≡ false
-unfolding is-from
+unfolding stands-in
 first-new qs ps q h =
     is-false (is-from ps (q .from))
     (λ e.
@@ -59,7 +62,7 @@ first-new qs ps q h =
 
 -- and each from-move counts as its to-move
 told : (qs ps : List Pair) (p : Pair) → from-twice qs ps ≡ false → List·Memᴰ p ps → replace ps (p .from) ≡ p .to
-unfolding from-twice replace is-from
+unfolding from-twice replace stands-in
 told qs [] p h m = absurd (List·Memᴰ·not-nil m)
 told qs (q ∷ ps) p h m =
     let (e, k) = or-none (is-from qs (q .from)) (from-twice (qs ++ (q ∷ [])) ps) h in

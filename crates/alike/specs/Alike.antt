@@ -26,10 +26,20 @@ replaced-rule ps r = record { job = r .job; move = replace ps (r .move); after =
 unfoldable pub replaced : List Pair → Table → Table
 replaced ps t = record { jobs = t .jobs; rules = map (replaced-rule ps) (t .rules) }
 
--- whether a move is a from-move of a list
-unfoldable pub is-from : List Pair → (move : ℕ) → Bool
-is-from [] a = false
-is-from (p ∷ ps) a = eqb (p .from) a || is-from ps a
+-- the from-moves and the to-moves of a list
+abbrev pub froms : List Pair → List ℕ
+froms ps = map (λ (p : Pair). p .from) ps
+
+abbrev pub tos : List Pair → List ℕ
+tos ps = map (λ (p : Pair). p .to) ps
+
+-- whether a number stands in a row, and whether a move is a from-move of a list
+unfoldable pub stands-in : (row : List ℕ) → (number : ℕ) → Bool
+stands-in [] v = false
+stands-in (x ∷ xs) v = eqb x v || stands-in xs v
+
+abbrev pub is-from : List Pair → (move : ℕ) → Bool
+is-from ps a = stands-in (froms ps) a
 
 -- A FROM-MOVE STANDS TWICE: at some pair and at an earlier one
 unfoldable pub from-twice : (earlier pairs : List Pair) → Bool
@@ -46,12 +56,6 @@ unfoldable pub clashes : List Pair → Bool
 clashes ps = from-twice [] ps || from-as-to ps ps
 
 -- THE MEANING OF A CLASH: a from-move stands at two places, or a from-move is the to-move of some pair
-abbrev pub froms : List Pair → List ℕ
-froms ps = map (λ (p : Pair). p .from) ps
-
-abbrev pub tos : List Pair → List ℕ
-tos ps = map (λ (p : Pair). p .to) ps
-
 abbrev pub FromTwice : List Pair → Type 0
 FromTwice ps = (i : ℕ) × (k : ℕ) × (i < k) × (k < length ps) × (getD (froms ps) i 0 ≡ getD (froms ps) k 0)
 

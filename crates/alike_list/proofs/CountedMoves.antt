@@ -6,15 +6,15 @@ use mathlib.Core.Logic.{⊎-elim}
 use Prim.Native.Nat.{ℕ, zero, suc, _+_, _-_, _≤_, _<_}
 use native.Mathlib.Omega.{arith}
 use lib.Dec.{eqb}
-use lib.ListN.{length, getD, take, replicate, length-append, length-map, length-replicate, List·getD-append}
+use lib.ListN.{length, getD, take, replicate, length-map, List·getD-append}
 use lib.Seq.{take-length, take-append-add}
 use borrow.Author.Tests.{eqb-true}
 use Rattle.bpa.proofs.Basics.Cases.{by-test, or-none}
-use Rattle.alike.specs.Alike.{Pair, replace, is-from, from-twice, clashes, froms, tos}
+use Rattle.alike.specs.Alike.{Pair, replace, froms, tos, stands-in, is-from, from-twice, clashes}
 use Rattle.alike.proofs.ReplacedMoves.{not-from, from-pair, first-new}
 use Rattle.alike.proofs.ListClashes.{place-from}
-use Rattle.alike_list.specs.PairArrays.{filled-froms, filled-tos, stands-in, sum-at, counts-as, HoldsPairs}
-use Rattle.alike_list.proofs.FilledRows.{filled-up, stands-filled}
+use Rattle.alike_list.specs.PairArrays.{filled-froms, filled-tos, sum-at, counts-as, HoldsPairs}
+use Rattle.alike_list.proofs.FilledRows.{filled-up, filled-size, stands-filled}
 
 sum-append : (fs ts xs ys : List ℕ) (a : ℕ) → length fs ≡ length ts → sum-at (fs ++ xs) (ts ++ ys) a ≡ sum-at fs ts a + sum-at xs ys a
 unfolding sum-at
@@ -37,7 +37,7 @@ sum-zeros (f ∷ fs) (suc m) (suc k) a =
 
 -- a move that is no from-move has nothing to add, and one that stands once has its to-move
 sum-none : (ps : List Pair) (a : ℕ) → is-from ps a ≡ false → sum-at (froms ps) (tos ps) a ≡ 0
-unfolding sum-at is-from
+unfolding sum-at stands-in
 sum-none [] a h = refl
 sum-none (p ∷ ps) a h =
     let (e, k) = or-none (eqb (p .from) a) (is-from ps a) h in
@@ -45,7 +45,7 @@ sum-none (p ∷ ps) a h =
     omega (arith, here, sum-none ps a k)
 
 sum-once : (qs ps : List Pair) (a : ℕ) → from-twice qs ps ≡ false → is-from ps a ≡ true → sum-at (froms ps) (tos ps) a ≡ replace ps a
-unfolding sum-at is-from from-twice replace
+unfolding sum-at stands-in from-twice replace
 sum-once qs [] a h k = absurd (true≢false (sym k))
 sum-once qs (p ∷ ps) a h k =
     let later = or-none (is-from qs (p .from)) (from-twice (qs ++ (p ∷ [])) ps) h .1 in
@@ -70,6 +70,10 @@ to-place (q ∷ ps) p m = ⊎-elim
     (List·Memᴰ·cases-cons m)
 
 -- the whole row of from-moves
+pub froms-size : (ps : List Pair) → length ps ≤ 32 → length (filled-froms ps) ≡ 32
+unfolding filled-froms
+froms-size ps h = filled-size (λ (p : Pair). p .from) (getD (froms ps) 0 0) ps h
+
 pub stands-whole : (ps : List Pair) → 1 ≤ length ps → (a : ℕ) → stands-in (filled-froms ps) a ≡ is-from ps a
 unfolding filled-froms filled-up
 stands-whole ps some a =
@@ -130,13 +134,8 @@ module _ (ps : List Pair) (some : 1 ≤ length ps) (clean : clashes ps ≡ false
         (λ e. omega (arith, sum-filled a, sum-none ps a e))
 
     sizes : (length fs ≡ 32) × (length ts ≡ 32)
-    unfolding filled-froms filled-tos
-    sizes =
-        let m = 32 - length ps in
-        let w = getD (froms ps) 0 0 in (
-          length-append (froms ps) (replicate m w) ∙ omega (arith, length-map ps (λ (p : Pair). p .from), length-replicate m w),
-          length-append (tos ps) (replicate m 0) ∙ omega (arith, length-map ps (λ (p : Pair). p .to), length-replicate {A = ℕ} m 0),
-        )
+    unfolding filled-tos
+    sizes = let l : length ps ≤ 32 = omega arith in (froms-size ps l, filled-size (λ (p : Pair). p .to) 0 ps l)
 
     -- THE ROWS OF A LIST that 13 lets pass
     pub rows-hold : HoldsPairs ps fs ts n

@@ -1,17 +1,17 @@
 -- A row of 32 numbers that is filled from a list of pairs, one after the other; behind them stands one number. Assumes nothing.
-use mathlib.Core.Path.{_≡_, refl, sym, ap, _∙_}
-use mathlib.Core.Bool.{Bool, true, _||_, or-assoc, true≢false}
+use mathlib.Core.Path.{_≡_, sym, ap, _∙_}
+use mathlib.Core.Bool.{true, _||_, true≢false}
 use mathlib.Core.List.{List, [], _∷_, _++_, map, map-append}
 use mathlib.Core.Logic.{⊎-elim}
 use Prim.Native.Nat.{ℕ, zero, suc, _+_, _-_, _≤_, _<_}
 use native.Mathlib.Omega.{arith}
 use lib.Dec.{eqb}
 use lib.ListN.{length, take, set, replicate, length-append, length-take, length-replicate, length-map}
-use lib.Seq.{set-at, append-snoc}
+use lib.Seq.{take-length, set-at, append-snoc}
 use borrow.Author.Tests.{eqb-true}
 use Rattle.bpa.proofs.Basics.Cases.{same-test, or-cases, or-left}
-use Rattle.alike.specs.Alike.{Pair, is-from, froms}
-use Rattle.alike_list.specs.PairArrays.{stands-in}
+use Rattle.alike.specs.Alike.{Pair, froms, stands-in, is-from}
+use Rattle.alike.proofs.ReplacedMoves.{stands-append}
 
 -- filled with so many pairs
 unfoldable pub filled-up : (part : Pair → ℕ) → (behind : ℕ) → (k : ℕ) → List Pair → List ℕ
@@ -36,18 +36,14 @@ module _ (f : Pair → ℕ) (v : ℕ) (k : ℕ) (ps : List Pair) (h : k ≤ leng
       ∙ sym (append-snoc (map f (take k ps)) (f p) (replicate n v))
       ∙ ap (λ (l : List ℕ). l ++ replicate n v) (sym (map-append f (take k ps) (p ∷ [])) ∙ ap (map f) (sym e))
 
+-- all of them
+pub filled-size : (f : Pair → ℕ) (v : ℕ) (ps : List Pair) → length ps ≤ 32 → length (map f ps ++ replicate (32 - length ps) v) ≡ 32
+unfolding filled-up
+filled-size f v ps h =
+    ap (λ (l : List Pair). length (map f l ++ replicate (32 - length ps) v)) (sym (take-length ps))
+    ∙ filled-length f v (length ps) ps (omega arith) h
+
 -- FROM-MOVES IN A ROW
-stands-append : (xs ys : List ℕ) (v : ℕ) → stands-in (xs ++ ys) v ≡ (stands-in xs v || stands-in ys v)
-unfolding stands-in
-stands-append [] ys v = refl
-stands-append (x ∷ xs) ys v =
-    ap (λ (b : Bool). eqb x v || b) (stands-append xs ys v) ∙ sym (or-assoc (eqb x v) (stands-in xs v) (stands-in ys v))
-
-pub stands-froms : (ps : List Pair) (v : ℕ) → stands-in (froms ps) v ≡ is-from ps v
-unfolding stands-in is-from
-stands-froms [] v = refl
-stands-froms (p ∷ ps) v = ap (λ (b : Bool). eqb (p .from) v || b) (stands-froms ps v)
-
 stands-behind : (n w v : ℕ) → stands-in (replicate n w) v ≡ true → w ≡ v
 unfolding stands-in
 stands-behind zero w v e = absurd (true≢false (sym e))
@@ -62,7 +58,7 @@ unfolding filled-up
 stands-filled k ps w v h =
     stands-append (froms (take k ps)) (replicate (32 - k) w) v
     ∙ same-test (stands-in (froms (take k ps)) v || stands-in (replicate (32 - k) w) v) (is-from (take k ps) v)
-    (λ e. ⊎-elim (λ (d : stands-in (froms (take k ps)) v ≡ true). sym (stands-froms (take k ps) v) ∙ d)
+    (λ e. ⊎-elim (λ (d : stands-in (froms (take k ps)) v ≡ true). d)
     (λ (d : stands-in (replicate (32 - k) w) v ≡ true). ap (is-from (take k ps)) (sym (stands-behind (32 - k) w v d)) ∙ h)
     (or-cases (stands-in (froms (take k ps)) v) (stands-in (replicate (32 - k) w) v) e))
-    (λ e. or-left (stands-in (froms (take k ps)) v) (stands-in (replicate (32 - k) w) v) (stands-froms (take k ps) v ∙ e))
+    (λ e. or-left (stands-in (froms (take k ps)) v) (stands-in (replicate (32 - k) w) v) e)

@@ -15,39 +15,41 @@ use Rattle.alike_list.specs.PairArrays.{WholePairs, ReadsList, ReadsFrom
 use Rattle.alike_list.proofs.PairLists.{whole-length}
 use Rattle.alike_list.proofs.CountedMoves.{rows-hold}
 
+-- more than 32 pairs, or an unfinished one
+abbrev pub not-whole : (list : List ℕ) → Bool
+not-whole ls = ltb 32 (length ls / 4) || ltb 0 (length ls % 4)
+
 module _ (ls : List ℕ) where
-  tested : (b : Bool) → (ltb 32 (pair-count ls) || ltb 0 (length ls % 4)) ≡ b → pairs-refusal ls ≡ cond b 12 0
-  unfolding pairs-refusal
+  tested : (b : Bool) → not-whole ls ≡ b → pairs-refusal ls ≡ cond b 12 0
+  unfolding pairs-refusal pair-count
   tested b e = ap (λ (x : Bool). cond x 12 0) e
 
-  refused-12 : (ltb 32 (pair-count ls) || ltb 0 (length ls % 4)) ≡ true → (fs ts : List ℕ) (n : ℕ) → ReadsList ls 12 fs ts n
+  pub twelve : not-whole ls ≡ true → alike-refusal ls ≡ 12
   unfolding alike-refusal
-  refused-12 e fs ts n =
-      let p = tested true e in
-      record {
-        refusal-is = sym (refused-first (pairs-refusal ls) (clash-refusal ls) (λ z. omega (arith, p, z)) ∙ p);
-        holds = λ z. absurd (omega (arith, z));
-      }
+  twelve e = let p = tested true e in refused-first (pairs-refusal ls) (clash-refusal ls) (λ z. omega (arith, p, z)) ∙ p
+
+  pub by-clash : not-whole ls ≡ false → alike-refusal ls ≡ cond (clashes (alike-pairs ls)) 13 0
+  unfolding alike-refusal clash-refusal
+  by-clash e = passed-first (pairs-refusal ls) (clash-refusal ls) (tested false e)
+
+  refused-12 : not-whole ls ≡ true → (fs ts : List ℕ) (n : ℕ) → ReadsList ls 12 fs ts n
+  refused-12 e fs ts n = record { refusal-is = sym (twelve e); holds = λ z. absurd (omega (arith, z)) }
 
   pub too-many : 32 < length ls / 4 → (fs ts : List ℕ) (n : ℕ) → ReadsList ls 12 fs ts n
-  unfolding pair-count
   too-many h = refused-12 (or-left (ltb 32 (length ls / 4)) (ltb 0 (length ls % 4)) (lt-ltb 32 (length ls / 4) h))
 
   pub unfinished : ltb 0 (length ls % 4) ≡ true → (fs ts : List ℕ) (n : ℕ) → ReadsList ls 12 fs ts n
-  unfolding pair-count
   unfinished h = refused-12 (or-right (ltb 32 (length ls / 4)) (ltb 0 (length ls % 4)) h)
 
   module _ (some : 0 < length ls) (few : length ls / 4 ≤ 32) (even : ltb 0 (length ls % 4) ≡ false) where
     pub whole-pairs : WholePairs ls (length ls / 4)
     whole-pairs = let r = ltb-false 0 (length ls % 4) even in record { size = omega arith; some = omega arith; few = few }
 
-    passed-12 : pairs-refusal ls ≡ 0
-    unfolding pair-count
-    passed-12 = tested false (ap (λ (b : Bool). b || ltb 0 (length ls % 4)) (le-ltb 32 (length ls / 4) few) ∙ even)
+    is-whole : not-whole ls ≡ false
+    is-whole = ap (λ (b : Bool). b || ltb 0 (length ls % 4)) (le-ltb 32 (length ls / 4) few) ∙ even
 
-    by-clash : (b : Bool) → clashes (alike-pairs ls) ≡ b → alike-refusal ls ≡ cond b 13 0
-    unfolding alike-refusal clash-refusal
-    by-clash b e = passed-first (pairs-refusal ls) (clash-refusal ls) passed-12 ∙ ap (λ (x : Bool). cond x 13 0) e
+    refusal-by : {b : Bool} → clashes (alike-pairs ls) ≡ b → alike-refusal ls ≡ cond b 13 0
+    refusal-by e = by-clash is-whole ∙ ap (λ (x : Bool). cond x 13 0) e
 
     -- what was read
     module _ {c d : Bool} {fs ts : List ℕ} (f : ReadsFroms (alike-pairs ls) c fs) (t : ReadsTos (alike-pairs ls) d ts) where
@@ -56,11 +58,11 @@ module _ (ls : List ℕ) where
       clash-is = sym (λ i. f .twice i || t .as-from i)
 
       pub clashing : (c || d) ≡ true → (n : ℕ) → ReadsList ls 13 fs ts n
-      clashing e n = record { refusal-is = sym (by-clash true (clash-is ∙ e)); holds = λ z. absurd (omega (arith, z)) }
+      clashing e n = record { refusal-is = sym (refusal-by (clash-is ∙ e)); holds = λ z. absurd (omega (arith, z)) }
 
       pub accepted-list : (c || d) ≡ false → ReadsList ls 0 fs ts ((length ls / 4 + 15) / 16 * 16)
       accepted-list e = record {
-        refusal-is = sym (by-clash false (clash-is ∙ e));
+        refusal-is = sym (refusal-by (clash-is ∙ e));
         holds =
             λ z.
             let l = whole-length whole-pairs in

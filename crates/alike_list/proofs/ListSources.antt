@@ -1,10 +1,10 @@
 -- A TABLE UNDER A LIST IS A SOURCE OF TABLES: refused as the table is, then by the list; once both pass, its bytes are those of the table with
 -- their moves replaced, and its norms are the table's. Assumes nothing.
-use mathlib.Core.Path.{_≡_, refl, sym, ap, subst, _∙_}
-use mathlib.Core.List.{List, [], _∷_, _++_, map}
+use mathlib.Core.Path.{_≡_, sym, ap, subst, _∙_}
+use mathlib.Core.List.{List, [], _++_, map}
 use Prim.Native.Nat.{ℕ, _+_, _*_, _-_, _/_, _≤_}
 use native.Mathlib.Omega.{arith}
-use lib.ListN.{length, getD, take, drop, length-append, length-drop}
+use lib.ListN.{length, getD, take, drop, length-append, length-drop, drop-of-length-le}
 use lib.Seq.{length-take-le, take-at}
 use Rattle.bpa.specs.Plans.{Rule, Table}
 use Rattle.bpa.specs.Norms.{norms, Good}
@@ -70,15 +70,11 @@ module _ {f : ℕ} {t : Table} {refusal jobs end : ℕ} {rules ns : List ℕ} (l
   -- no list
   pub without-list : length ls ≡ 0 → Loads (or-else f (alike-refusal ls)) (replaced (alike-pairs ls) t) refusal jobs end rules ns
   without-list e =
-      let none : ls ≡ [] = nothing ls e in
+      let none : ls ≡ [] = drop-of-length-le ls {i = 0} (omega (arith, e)) in
       let at : or-else f (alike-refusal ls) ≡ f = ap (λ (x : List ℕ). or-else f (alike-refusal x)) none ∙ no-refusal f in
       let u : replaced (alike-pairs ls) t ≡ t = ap (λ (x : List ℕ). replaced (alike-pairs x) t) none ∙ no-replacement t in
       subst (λ (n : ℕ). Loads n (replaced (alike-pairs ls) t) refusal jobs end rules ns) (sym at)
       (subst (λ (x : Table). Loads f x refusal jobs end rules ns) (sym u) l)
-    where
-      nothing : (xs : List ℕ) → length xs ≡ 0 → xs ≡ []
-      nothing [] h = refl
-      nothing (x ∷ xs) h = absurd (omega (arith, h))
 
   module _ {pairs n : ℕ} {fs ts : List ℕ} (p : ReadsList ls pairs fs ts n) {r : ℕ} (d : r ≡ or-else refusal pairs) where
     refusal-is : r ≡ or-else f (alike-refusal ls)
@@ -91,7 +87,7 @@ module _ {f : ℕ} {t : Table} {refusal jobs end : ℕ} {rules ns : List ℕ} (l
       passed : (refusal ≡ 0) × (pairs ≡ 0)
       passed = neither refusal pairs (sym d ∙ z)
 
-      pub arrays-hold : HoldsPairs (alike-pairs ls) fs ts n
+      arrays-hold : HoldsPairs (alike-pairs ls) fs ts n
       arrays-hold = p .holds (passed .1)
 
       abbrev c : ℕ → ℕ

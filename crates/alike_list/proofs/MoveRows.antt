@@ -1,34 +1,34 @@
 -- Rows of moves from a place on: whether a move stands in what is left, and the sum of the to-moves where it does. Assumes nothing.
-use mathlib.Core.Path.{_≡_, refl, ap, _∙_}
-use mathlib.Core.Bool.{Bool, true, false, _||_, cond}
+use mathlib.Core.Path.{_≡_, sym, ap, _∙_}
+use mathlib.Core.Bool.{Bool, true, false, _||_, cond, or-true, or-false, or-assoc}
 use mathlib.Core.List.{List}
 use Prim.Native.Nat.{ℕ, _+_, _≤_, _<_}
 use native.Mathlib.Numerals.{add-one}
 use lib.Dec.{eqb}
 use lib.ListN.{length, getD, drop, drop-of-length-le}
 use lib.Seq.{drop-cons}
-use borrow.Author.Tests.{eq-eqb, ne-eqb}
-use Rattle.alike_list.specs.PairArrays.{stands-in, sum-at}
+use Rattle.alike.specs.Alike.{stands-in}
+use Rattle.alike_list.specs.PairArrays.{sum-at}
+
+-- what was found so far, after one more test, and with what is then left
+module _ (found b : Bool) {found′ : Bool} where
+  pub found-now : b ≡ true → found′ ≡ true → found′ ≡ (found || b)
+  found-now e d = d ∙ sym (or-true found) ∙ ap (λ (x : Bool). found || x) (sym e)
+
+  pub found-not : b ≡ false → found′ ≡ found → found′ ≡ (found || b)
+  found-not e d = d ∙ sym (or-false found) ∙ ap (λ (x : Bool). found || x) (sym e)
+
+  pub found-next : (rest : Bool) → found′ ≡ (found || b) → (found′ || rest) ≡ (found || (b || rest))
+  found-next rest e = ap (λ (x : Bool). x || rest) e ∙ or-assoc found b rest
 
 module _ (row : List ℕ) (k v : ℕ) where
-  stands-next : k < length row → stands-in (drop k row) v ≡ (eqb (getD row k 0) v || stands-in (drop (k + 1) row) v)
+  pub stands-next : k < length row → stands-in (drop k row) v ≡ (eqb (getD row k 0) v || stands-in (drop (k + 1) row) v)
   unfolding stands-in
   stands-next h = rw (add-one, drop-cons row k 0)
 
-  -- what was found so far, after one more place
-  pub found-more : (found : Bool) → k < length row → getD row k 0 ≡ v →
-      (true || stands-in (drop (k + 1) row) v) ≡ (found || stands-in (drop k row) v)
-  found-more true h e = refl
-  found-more false h e = rw (stands-next h, eq-eqb (getD row k 0) v e)
-
-  pub not-found : (found : Bool) → k < length row → (getD row k 0 ≡ v → ⊥) →
-      (found || stands-in (drop (k + 1) row) v) ≡ (found || stands-in (drop k row) v)
-  not-found found h e = rw (stands-next h, ne-eqb (getD row k 0) v e)
-
-  pub found-end : (found : Bool) → length row ≤ k → (found || stands-in (drop k row) v) ≡ found
+  pub stands-end : length row ≤ k → stands-in (drop k row) v ≡ false
   unfolding stands-in
-  found-end true h = refl
-  found-end false h = ap (λ (l : List ℕ). stands-in l v) (drop-of-length-le row h)
+  stands-end h = ap (λ (l : List ℕ). stands-in l v) (drop-of-length-le row h)
 
 module _ (fs ts : List ℕ) (k a : ℕ) (h : k < length fs) (l : k < length ts) (part : ℕ) where
   sum-next : part ≡ cond (eqb (getD fs k 0) a) (getD ts k 0) 0 →

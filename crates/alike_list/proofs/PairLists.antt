@@ -1,17 +1,17 @@
 -- The pairs of a list by their places in its bytes. Assumes nothing.
-use mathlib.Core.Path.{_≡_, refl, sym, ap, _∙_}
-use mathlib.Core.List.{List, [], _∷_, _++_, cons≢nil}
+use mathlib.Core.Path.{_≡_, refl, ap, _∙_}
+use mathlib.Core.List.{List, [], _∷_, _++_}
 use Prim.Native.Nat.{ℕ, zero, suc, _+_, _*_, _-_, _<_}
 use native.Mathlib.Numerals.{add-one}
 use native.Mathlib.Omega.{arith}
 use lib.ListN.{length, getD, take, drop}
-use lib.Seq.{getD-drop}
+use lib.Seq.{take-suc, drop-cons, getD-drop}
 use Rattle.area.specs.Numbers.{number-at}
 use Rattle.alike.specs.Alike.{Pair}
 use Rattle.alike_list.specs.AlikeLists.{pairs-in, pair-count, alike-pairs}
 use Rattle.alike_list.specs.PairArrays.{WholePairs}
 
-pub length-pairs : (n : ℕ) (ls : List ℕ) → length (pairs-in n ls) ≡ n
+length-pairs : (n : ℕ) (ls : List ℕ) → length (pairs-in n ls) ≡ n
 unfolding pairs-in
 length-pairs zero ls = refl
 length-pairs (suc n) ls = ap suc (length-pairs n (drop 4 ls))
@@ -35,17 +35,11 @@ at-next ls k =
       to = (number-drop 4 (4 * k + 2) ls ∙ ap (λ (j : ℕ). number-at j ls) f) d;
     }
 
-pub pairs-drop : (n : ℕ) (ls : List ℕ) (k : ℕ) → k < n → drop k (pairs-in n ls) ≡ pair-at ls k ∷ drop (suc k) (pairs-in n ls)
+there : (n : ℕ) (ls : List ℕ) (k : ℕ) (d : Pair) → k < n → getD (pairs-in n ls) k d ≡ pair-at ls k
 unfolding pairs-in
-pairs-drop zero ls k h = absurd (omega arith)
-pairs-drop (suc n) ls zero h = refl
-pairs-drop (suc n) ls (suc k) h = pairs-drop n (drop 4 ls) k (omega arith) ∙ ap (λ (p : Pair). p ∷ drop (suc k) (pairs-in n (drop 4 ls))) (at-next ls k)
-
--- a front with one pair more
-pub take-more : (ps : List Pair) (k : ℕ) (p : Pair) (rest : List Pair) → drop k ps ≡ p ∷ rest → take (suc k) ps ≡ take k ps ++ (p ∷ [])
-take-more ps zero p rest e = ap (take 1) e
-take-more [] (suc k) p rest e = absurd (cons≢nil (sym e))
-take-more (q ∷ ps) (suc k) p rest e = ap (λ (l : List Pair). q ∷ l) (take-more ps k p rest e)
+there zero ls k d h = absurd (omega arith)
+there (suc n) ls zero d h = refl
+there (suc n) ls (suc k) d h = there n (drop 4 ls) k d (omega arith) ∙ at-next ls k
 
 module _ {ls : List ℕ} {count : ℕ} (w : WholePairs ls count) where
   count-is : pair-count ls ≡ count
@@ -58,7 +52,14 @@ module _ {ls : List ℕ} {count : ℕ} (w : WholePairs ls count) where
 
   pub pair-next : (k : ℕ) → k < count → drop k (alike-pairs ls) ≡ pair-at ls k ∷ drop (k + 1) (alike-pairs ls)
   unfolding alike-pairs
-  pair-next k h = rw add-one (pairs-drop (pair-count ls) ls k (omega (arith, count-is)))
+  pair-next k h =
+      let ps = pairs-in (pair-count ls) ls in
+      rw add-one
+      (drop-cons ps k (pair-at ls k) (omega (arith, whole-length)) ∙ ap (λ (p : Pair). p ∷ drop (suc k) ps) (there (pair-count ls) ls k _ (omega (arith, count-is))))
 
   pub pair-more : (k : ℕ) → k < count → take (k + 1) (alike-pairs ls) ≡ take k (alike-pairs ls) ++ (pair-at ls k ∷ [])
-  pair-more k h = rw add-one (take-more (alike-pairs ls) k (pair-at ls k) (drop (k + 1) (alike-pairs ls)) (pair-next k h))
+  unfolding alike-pairs
+  pair-more k h =
+      let ps = pairs-in (pair-count ls) ls in
+      rw add-one
+      (take-suc ps k (pair-at ls k) (omega (arith, whole-length)) ∙ ap (λ (p : Pair). take k ps ++ (p ∷ [])) (there (pair-count ls) ls k _ (omega (arith, count-is))))

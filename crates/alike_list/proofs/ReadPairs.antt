@@ -5,35 +5,24 @@ use mathlib.Core.List.{List, [], _∷_, _++_, map}
 use Prim.Native.Nat.{ℕ, zero, suc, _+_, _*_, _-_, _≤_, _<_}
 use native.Mathlib.Omega.{arith}
 use lib.Dec.{eqb}
-use lib.ListN.{length, getD, take, drop, set, replicate, length-append, length-map, length-replicate, drop-of-length-le}
+use lib.ListN.{length, getD, take, drop, set, replicate, drop-of-length-le}
 use lib.Seq.{take-all, getD-set-same, getD-set-other}
 use borrow.Author.Tests.{eqb-true, eqb-false, eq-eqb}
 use Rattle.bpa.proofs.Basics.Cases.{by-test, or-left}
 use Rattle.bpa.proofs.Basics.Zeros.{zeros-at}
 use Rattle.area.specs.Numbers.{number-at}
-use Rattle.alike.specs.Alike.{Pair, is-from, from-twice, from-as-to, froms, tos}
+use Rattle.alike.specs.Alike.{Pair, froms, tos, stands-in, is-from, from-twice, from-as-to}
 use Rattle.alike_list.specs.AlikeLists.{alike-pairs}
-use Rattle.alike_list.specs.PairArrays.{WholePairs, filled-froms, filled-tos, stands-in, ReadsFroms, ReadsTos}
+use Rattle.alike_list.specs.PairArrays.{WholePairs, filled-froms, filled-tos, ReadsFroms, ReadsTos}
+use Rattle.alike_list.proofs.MoveRows.{found-next}
 use Rattle.alike_list.proofs.PairLists.{pair-at, whole-length, pair-next, pair-more}
 use Rattle.alike_list.proofs.FilledRows.{filled-up, filled-length, filled-more, stands-filled}
 use Rattle.alike_list.proofs.CountedMoves.{stands-whole}
 
--- what was found so far, after one more test
-module _ (found b rest : Bool) where
-  pub found-now : b ≡ true → (true || rest) ≡ (found || (b || rest))
-  found-now e = go found ∙ ap (λ (x : Bool). found || (x || rest)) (sym e)
-    where
-      go : (x : Bool) → true ≡ (x || true)
-      go true = refl
-      go false = refl
-
-  pub found-not : b ≡ false → (found || rest) ≡ (found || (b || rest))
-  found-not e = ap (λ (x : Bool). found || (x || rest)) (sym e)
-
-abbrev pub from-part : Pair → ℕ
+abbrev from-part : Pair → ℕ
 from-part p = p .from
 
-abbrev pub to-part : Pair → ℕ
+abbrev to-part : Pair → ℕ
 to-part p = p .to
 
 module _ {ls : List ℕ} {count : ℕ} (w : WholePairs ls count) where
@@ -57,7 +46,7 @@ module _ {ls : List ℕ} {count : ℕ} (w : WholePairs ls count) where
 
   -- the first from-move is one of each front
   first-known : (k : ℕ) → 1 ≤ k → is-from (take k ps) first ≡ true
-  unfolding is-from
+  unfolding stands-in
   first-known zero h = absurd (omega arith)
   first-known (suc k) h =
       ap (λ (l : List Pair). is-from (take (suc k) l) first) begins ∙ or-left (eqb first first) (is-from (take k (drop 1 ps)) first) (eq-eqb first first refl)
@@ -70,7 +59,7 @@ module _ {ls : List ℕ} {count : ℕ} (w : WholePairs ls count) where
     pub twice : (clash || from-twice (take k ps) (drop k ps)) ≡ from-twice [] ps
 
   pub froms-begin : FromsRead 1 false (replicate 32 first)
-  unfolding filled-up from-twice is-from
+  unfolding filled-up from-twice stands-in
   froms-begin = record {
     some = omega arith;
     within = w .some;
@@ -113,28 +102,15 @@ module _ {ls : List ℕ} {count : ℕ} (w : WholePairs ls count) where
           ap₂ (λ (l : List ℕ) (v : ℕ). set l k v) (s .filled) is
           ∙ filled-more from-part first k ps (omega (arith, whole-length w)) (omega (arith, w .few)) (pair-at ls k) (pair-more w k h)
 
-      pub froms-found : stands-in row a ≡ true → FromsRead (k + 1) true (set row k a)
-      froms-found e = record {
+      pub froms-next : {clash′ : Bool} → clash′ ≡ (clash || stands-in row a) → FromsRead (k + 1) clash′ (set row k a)
+      froms-next e = record {
         some = omega arith;
         within = omega arith;
         filled = from-more;
-        twice = found-now clash _ _ (sym from-is ∙ e) ∙ ap (λ (b : Bool). clash || b) (sym from-turn) ∙ s .twice;
+        twice =
+            found-next clash _ (from-twice (take (k + 1) ps) (drop (k + 1) ps)) (e ∙ ap (λ (b : Bool). clash || b) from-is)
+            ∙ ap (λ (b : Bool). clash || b) (sym from-turn) ∙ s .twice;
       }
-
-      pub froms-new : stands-in row a ≡ false → FromsRead (k + 1) clash (set row k a)
-      froms-new e = record {
-        some = omega arith;
-        within = omega arith;
-        filled = from-more;
-        twice = found-not clash _ _ (sym from-is ∙ e) ∙ ap (λ (b : Bool). clash || b) (sym from-turn) ∙ s .twice;
-      }
-
-  pub froms-length : length (filled-froms ps) ≡ 32
-  unfolding filled-froms
-  froms-length =
-      let n = 32 - length ps in
-      let v = getD (froms ps) 0 0 in
-      length-append (froms ps) (replicate n v) ∙ omega (arith, length-map ps from-part, length-replicate n v, whole-length w, w .few)
 
   -- THE TO-MOVES: k are read
   pub record TosRead (k : ℕ) (clash : Bool) (row : List ℕ) : Type 0 where
@@ -148,7 +124,7 @@ module _ {ls : List ℕ} {count : ℕ} (w : WholePairs ls count) where
   tos-begin = record { within = omega arith; filled = refl; as-from = refl; small = λ i. omega (arith, zeros-at 32 i) }
 
   module _ {k : ℕ} {clash : Bool} {row : List ℕ} (s : TosRead k clash row) where
-    pub tos-size : length row ≡ 32
+    tos-size : length row ≡ 32
     tos-size = ap length (s .filled) ∙ filled-length to-part 0 k ps (omega (arith, whole-length w, s .within)) (omega (arith, w .few, s .within))
 
     pub tos-end : count ≤ k → ReadsTos ps clash row
@@ -182,18 +158,12 @@ module _ {ls : List ℕ} {count : ℕ} (w : WholePairs ls count) where
           (λ e. let d = eqb-true i k e in omega (arith, ap (λ (j : ℕ). getD (set row k a) j 0) d, getD-set-same row k a 0 (omega (arith, tos-size, w .few))))
           (λ e. omega (arith, getD-set-other row k i a 0 (eqb-false i k e), s .small i))
 
-      pub tos-found : b ≡ true → TosRead (k + 1) true (set row k a)
-      tos-found e = record {
+      pub tos-next : {clash′ : Bool} → clash′ ≡ (clash || b) → TosRead (k + 1) clash′ (set row k a)
+      tos-next e = record {
         within = omega arith;
         filled = to-more;
-        as-from = found-now clash _ _ (sym to-is ∙ e) ∙ ap (λ (x : Bool). clash || x) (sym to-turn) ∙ s .as-from;
-        small = still-small;
-      }
-
-      pub tos-new : b ≡ false → TosRead (k + 1) clash (set row k a)
-      tos-new e = record {
-        within = omega arith;
-        filled = to-more;
-        as-from = found-not clash _ _ (sym to-is ∙ e) ∙ ap (λ (x : Bool). clash || x) (sym to-turn) ∙ s .as-from;
+        as-from =
+            found-next clash _ (from-as-to ps (drop (k + 1) ps)) (e ∙ ap (λ (x : Bool). clash || x) to-is)
+            ∙ ap (λ (x : Bool). clash || x) (sym to-turn) ∙ s .as-from;
         small = still-small;
       }

@@ -40,12 +40,12 @@ row-same c d e f g h i l =
     take-append-le c (d ∷ e ∷ f ∷ g ∷ []) (h ∷ []) l ∙ sym (take-append-le c (d ∷ e ∷ f ∷ g ∷ []) (i ∷ []) l)
 
 module _ (v : ℕ) where
-  pub with-length : (xs : List ℕ) → Place xs → length (with-move v xs) ≡ 8
+  with-length : (xs : List ℕ) → Place xs → length (with-move v xs) ≡ 8
   unfolding with-move put
   with-length xs (eight a b c d e f g h) = refl
 
   -- its rule makes the other move
-  pub with-rule : (xs : List ℕ) → Place xs → getD xs 2 0 ≤ 4 →
+  with-rule : (xs : List ℕ) → Place xs → getD xs 2 0 ≤ 4 →
       rule-in (with-move v xs) ≡ record { job = rule-in xs .job; move = v; after = rule-in xs .after }
   unfolding with-move put rule-in move-in
   with-rule xs (eight a b c d e f g h) l =
@@ -53,7 +53,7 @@ module _ (v : ℕ) where
       λ i. record { job = a; move = m i; after = row-same c d e f g (v / 256) h l i }
 
   -- and it is as good as it was
-  pub with-good : (n : ℕ) (xs : List ℕ) → Place xs → place-good n (with-move v xs) ≡ place-good n xs
+  with-good : (n : ℕ) (xs : List ℕ) → Place xs → place-good n (with-move v xs) ≡ place-good n xs
   unfolding with-move put place-good
   with-good n xs (eight a b c d e f g h) =
       let zeros : (x : ℕ) → drop (3 + c) (a ∷ x ∷ c ∷ d ∷ e ∷ f ∷ g ∷ []) ≡ drop c (d ∷ e ∷ f ∷ g ∷ []) =
@@ -97,18 +97,18 @@ module _ (f : ℕ → ℕ) where
       length-append w (with-moves f k (drop 8 xs))
       ∙ omega (arith, with-length (f (move-in (take 8 xs))) (take 8 xs) (first k xs h), moves-length k (drop 8 xs) (rest k xs h))
 
-  -- one place more
-  abbrev pub place-at : (xs : List ℕ) → (k : ℕ) → List ℕ
-  place-at xs k = take 8 (drop (8 * k) xs)
+  -- a place with the move that its own counts as, and one place more
+  abbrev pub moved : (place : List ℕ) → List ℕ
+  moved y = with-move (f (move-in y)) y
 
-  pub moves-more : (k : ℕ) (xs : List ℕ) → with-moves f (suc k) xs ≡ with-moves f k xs ++ with-move (f (move-in (place-at xs k))) (place-at xs k)
+  pub moves-more : (k : ℕ) (xs : List ℕ) → with-moves f (suc k) xs ≡ with-moves f k xs ++ moved (take 8 (drop (8 * k) xs))
   unfolding with-moves
   moves-more zero xs = append-nil _
   moves-more (suc k) xs =
       let w = with-move (f (move-in (take 8 xs))) (take 8 xs) in
       ap (λ (l : List ℕ). w ++ l)
-      (moves-more k (drop 8 xs) ∙ ap (λ (l : List ℕ). with-moves f k (drop 8 xs) ++ with-move (f (move-in (take 8 l))) (take 8 l)) (place-next xs k))
-      ∙ sym (append-assoc w (with-moves f k (drop 8 xs)) (with-move (f (move-in (place-at xs (suc k)))) (place-at xs (suc k))))
+      (moves-more k (drop 8 xs) ∙ ap (λ (l : List ℕ). with-moves f k (drop 8 xs) ++ moved (take 8 l)) (place-next xs k))
+      ∙ sym (append-assoc w (with-moves f k (drop 8 xs)) (moved (take 8 (drop (8 * suc k) xs))))
 
   -- they are those of the front
   pub moves-front : (k m : ℕ) (xs : List ℕ) → 8 * k ≤ m → with-moves f k (take m xs) ≡ with-moves f k xs

@@ -1,12 +1,12 @@
 -- The pairs of a list in two arrays of 32 numbers, and places of rules with other moves. Assumes nothing: these are definitions.
 use mathlib.Core.Path.{_≡_}
-use mathlib.Core.Bool.{Bool, false, _||_, cond}
+use mathlib.Core.Bool.{Bool, cond}
 use mathlib.Core.List.{List, [], _∷_, _++_}
 use Prim.Native.Nat.{ℕ, zero, suc, _+_, _*_, _-_, _≤_, _<_}
 use lib.Dec.{eqb}
 use lib.ListN.{length, getD, take, drop, replicate}
 use Rattle.rules.specs.Places.{move-in, with-move}
-use Rattle.alike.specs.Alike.{Pair, replace, from-twice, from-as-to, froms, tos}
+use Rattle.alike.specs.Alike.{Pair, replace, froms, tos, stands-in, from-twice, from-as-to}
 use Rattle.alike_list.specs.AlikeLists.{alike-pairs, alike-refusal}
 
 -- 1 to 32 whole pairs
@@ -21,11 +21,6 @@ filled-froms ps = froms ps ++ replicate (32 - length ps) (getD (froms ps) 0 0)
 
 unfoldable pub filled-tos : List Pair → List ℕ
 filled-tos ps = tos ps ++ replicate (32 - length ps) 0
-
--- whether a number stands in a row
-unfoldable pub stands-in : (row : List ℕ) → (number : ℕ) → Bool
-stands-in [] v = false
-stands-in (x ∷ xs) v = eqb x v || stands-in xs v
 
 -- the sum of the to-moves at the places where a move stands as a from-move
 unfoldable pub sum-at : (froms tos : List ℕ) → (move : ℕ) → ℕ

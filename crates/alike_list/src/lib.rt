@@ -15,9 +15,9 @@ ghost use Rattle.answer.specs.Refusals as refusals;
 ghost use Rattle.rules.specs.Places.{move-in, with-move};
 ghost use Rattle.rules.specs.Lists.{IsMove};
 ghost use Rattle.table.specs.Tables.{Loads};
-ghost use Rattle.alike.specs.Alike.{replaced};
+ghost use Rattle.alike.specs.Alike.{replaced, stands-in};
 ghost use Rattle.alike_list.specs.AlikeLists.{alike-pairs, alike-refusal};
-ghost use Rattle.alike_list.specs.PairArrays.{WholePairs, filled-froms, stands-in, sum-at, counts-as, MoveArrays, ReadsList, ReadsFroms, ReadsTos, with-moves};
+ghost use Rattle.alike_list.specs.PairArrays.{WholePairs, filled-froms, sum-at, counts-as, MoveArrays, ReadsList, ReadsFroms, ReadsTos, with-moves};
 
 // The from-moves or the to-moves of a list, and whether one of them clashes.
 pub struct Moves {

@@ -1,6 +1,6 @@
 -- The promises about alike lists and the calls that take one, each with its proved term. Assumes nothing.
 use mathlib.Core.Path.{_≡_, refl, sym, ap, subst, _∙_}
-use mathlib.Core.Bool.{Bool, true, false, _||_, cond}
+use mathlib.Core.Bool.{Bool, true, false, cond}
 use mathlib.Core.List.{List}
 use mathlib.Core.Logic.{_⊎_, inl, inr, ⊎-elim}
 use Prim.Native.Nat.{ℕ, _/_, _%_, _≤_, _<_}
@@ -13,7 +13,7 @@ use Rattle.bpa.specs.Norms.{sum-of, norms, norm, Good}
 use Rattle.bpa.specs.Bisimilar.{Bisimulation}
 use Rattle.bpa.proofs.Basics.Cases.{by-test, or-cases, or-left, or-right, is-false}
 use Rattle.answer.specs.Refusals.{or-else}
-use Rattle.answer.proofs.RefusalChains.{refused-first, passed-first, neither}
+use Rattle.answer.proofs.RefusalChains.{neither}
 use Rattle.refusal.specs.Refusals.{jobs-refusal, sum-refusal, plan-refusal, plans-refusal, Accepted}
 use Rattle.image.specs.Image.{image-refusal, table-in}
 use Rattle.table.proofs.ImageTables.{image-table}
@@ -22,8 +22,9 @@ use Rattle.alike.proofs.ReplacedMoves as moves
 use Rattle.alike.proofs.ReplacedTables as tables
 use Rattle.alike.proofs.ListClashes.{clashes-exact}
 use Rattle.alike.proofs.AlikeBisimulations as bisimulations
-use Rattle.alike_list.specs.AlikeLists.{pair-count, alike-pairs, pairs-refusal, clash-refusal, alike-refusal}
+use Rattle.alike_list.specs.AlikeLists.{alike-pairs, alike-refusal}
 use Rattle.alike_list.specs.AlikeTables.{alike-table, listed-refusal}
+use Rattle.alike_list.proofs.ListRefusals.{not-whole, twelve, by-clash}
 use Rattle.sameness.proofs.NoListCalls.{compared-none, formed-none}
 use Rattle.promises.specs.Promises as plain
 use Rattle.promises.specs.AlikeLists as promised
@@ -31,36 +32,23 @@ use Rattle.promises.proofs.Promises as proved
 use Rattle.promises.proofs.SourceCalls.{answer-tells, bytes-form, bytes-stand, bytes-tell}
 
 -- REFUSALS 12 AND 13, by the two tests
-module _ (ls : List ℕ) where
-  abbrev unwhole : Bool
-  unwhole = ltb 32 (length ls / 4) || ltb 0 (length ls % 4)
+either : (b : Bool) {n : ℕ} → n ≡ cond b 13 0 → n ≡ 12 → ⊥
+either true e d = omega (arith, e, d)
+either false e d = omega (arith, e, d)
 
-  twelve : (unwhole ≡ true → alike-refusal ls ≡ 12) × (unwhole ≡ false → alike-refusal ls ≡ cond (clashes (alike-pairs ls)) 13 0)
-  unfolding alike-refusal pairs-refusal clash-refusal pair-count
-  twelve = (
-    (λ e.
-        let p : pairs-refusal ls ≡ 12 = ap (λ (b : Bool). cond b 12 0) e in
-        refused-first (pairs-refusal ls) (clash-refusal ls) (λ z. omega (arith, p, z)) ∙ p),
-    (λ e. passed-first (pairs-refusal ls) (clash-refusal ls) (ap (λ (b : Bool). cond b 12 0) e)),
-  )
-
-  by-clash : (b : Bool) {n : ℕ} → n ≡ cond b 13 0 → n ≡ 12 → ⊥
-  by-clash true e d = omega (arith, e, d)
-  by-clash false e d = omega (arith, e, d)
-
-  no-clash : alike-refusal ls ≡ 0 → clashes (alike-pairs ls) ≡ false
-  no-clash z =
-      by-test unwhole (λ e. absurd (omega (arith, twelve .0 e, z)))
-      (λ e. is-false (clashes (alike-pairs ls)) (λ c. omega (arith, twelve .1 e ∙ ap (λ (b : Bool). cond b 13 0) c, z)))
+no-clash : (ls : List ℕ) → alike-refusal ls ≡ 0 → clashes (alike-pairs ls) ≡ false
+no-clash ls z =
+    by-test (not-whole ls) (λ e. absurd (omega (arith, twelve ls e, z)))
+    (λ e. is-false (clashes (alike-pairs ls)) (λ c. omega (arith, by-clash ls e ∙ ap (λ (b : Bool). cond b 13 0) c, z)))
 
 pub twelve-exactly : promised.Twelve-exactly
 unfolding promised.Twelve-exactly
 twelve-exactly ls = (
-  (λ z. by-test (unwhole ls)
+  (λ z. by-test (not-whole ls)
       (λ e. ⊎-elim (λ (d : ltb 32 (length ls / 4) ≡ true). inl (ltb-true 32 (length ls / 4) d))
       (λ (d : ltb 0 (length ls % 4) ≡ true). inr (ltb-true 0 (length ls % 4) d)) (or-cases (ltb 32 (length ls / 4)) (ltb 0 (length ls % 4)) e))
-      (λ e. absurd (by-clash ls (clashes (alike-pairs ls)) (twelve ls .1 e) z))),
-  (λ h. twelve ls .0 (⊎-elim
+      (λ e. absurd (either (clashes (alike-pairs ls)) (by-clash ls e) z))),
+  (λ h. twelve ls (⊎-elim
       (λ (l : 32 < length ls / 4). or-left (ltb 32 (length ls / 4)) (ltb 0 (length ls % 4)) (lt-ltb 32 (length ls / 4) l))
       (λ (l : 0 < length ls % 4). or-right (ltb 32 (length ls / 4)) (ltb 0 (length ls % 4)) (lt-ltb 0 (length ls % 4) l)) h)),
 )
@@ -70,12 +58,12 @@ unfolding promised.Thirteen-exactly
 thirteen-exactly ls = (
   (λ z. (
     (λ y. omega (arith, z, y)),
-    by-test (unwhole ls) (λ e. absurd (omega (arith, twelve ls .0 e, z)))
+    by-test (not-whole ls) (λ e. absurd (omega (arith, twelve ls e, z)))
         (λ e. clashes-exact (alike-pairs ls) .0
-        (by-test (clashes (alike-pairs ls)) (λ c. c) (λ c. absurd (omega (arith, twelve ls .1 e ∙ ap (λ (b : Bool). cond b 13 0) c, z))))),
+        (by-test (clashes (alike-pairs ls)) (λ c. c) (λ c. absurd (omega (arith, by-clash ls e ∙ ap (λ (b : Bool). cond b 13 0) c, z))))),
   )),
-  (λ (n, c). by-test (unwhole ls) (λ e. absurd (n (twelve ls .0 e)))
-      (λ e. twelve ls .1 e ∙ ap (λ (b : Bool). cond b 13 0) (clashes-exact (alike-pairs ls) .1 c))),
+  (λ (n, c). by-test (not-whole ls) (λ e. absurd (n (twelve ls e)))
+      (λ e. by-clash ls e ∙ ap (λ (b : Bool). cond b 13 0) (clashes-exact (alike-pairs ls) .1 c))),
 )
 
 -- WHAT MOVES COUNT AS

@@ -37,13 +37,13 @@ use Rattle.first_run.proofs.FirstRuns.{first-run-first}
 use Rattle.table.specs.CallRefusals.{one-plan, two-plans}
 use Rattle.table.proofs.ImageTables.{image-table}
 use Rattle.alike.specs.Alike as alike
-use Rattle.alike.specs.Alike.{replaced-rule, replaced, is-from, from-twice, from-as-to, clashes}
+use Rattle.alike.specs.Alike.{replaced-rule, replaced, stands-in, from-twice, from-as-to, clashes}
 use Rattle.alike.proofs.ReplacedTables.{norms-replaced, good-replaced}
 use Rattle.alike_list.specs.AlikeLists.{pairs-in, pair-count, alike-pairs, pairs-refusal, clash-refusal, alike-refusal}
 use Rattle.alike_list.specs.AlikeTables.{two-plans-alike}
 use Rattle.table.proofs.ListTables.{list-closed}
 use Rattle.promises.specs.WorkedCases.{Worked, image-of, read-back, listed, HasNorms, Means, plan-passes, pair-passes, has-form}
-use Rattle.promises.specs.WorkedCases.{under-passes, passes, all-pass, cases, Cases-hold}
+use Rattle.promises.specs.WorkedCases.{listed-under, under-passes, passes, all-pass, cases, Cases-hold}
 use Rattle.promises.specs.WorkedCases.{Case, refusal-is, byte-is, norms-are, pair-refusal-is, are-same, are-apart, form-is, is-prime, move-is, run-is}
 use Rattle.promises.specs.WorkedCases.{alike-refusal-is, same-under, apart-under}
 
@@ -57,7 +57,7 @@ unfolding all-pass passes has-form plan-passes pair-passes equal-plans same-move
     length-good sum-good rules-fit head-of head-good places-of-block block-good layout-refusal places-from image-jobs image-places table-in
     image-refusal low-first blocks-for rules-for body written-block written-from written list-refusal write-refusal
     earlier earliest runs-by job-run run-of first-run under-passes pairs-in pair-count alike-pairs pairs-refusal clash-refusal alike-refusal
-    alike.replace replaced-rule replaced is-from from-twice from-as-to clashes
+    alike.replace replaced-rule replaced stands-in from-twice from-as-to clashes
 cases-pass = refl
 
 module _ (w : Worked) where
@@ -197,11 +197,11 @@ case-true (is-prime w j) e = form-prime (read-back w) j (form-holds w (j ∷ [])
 case-true (run-is w p run) e = row-holds w p (λ t. first-run t p) run e (λ t. First t p) (λ t g. first-run-first t g p)
 case-true (alike-refusal-is ls f) e = eqb-true (alike-refusal ls) f e
 case-true (same-under ls w p q) e =
-    let t = replaced (alike-pairs ls) (listed w) in
+    let t = listed-under ls w in
     let k = and-left (under-passes ls w p q) (same t p q) e in
     (under-accepted w ls p q k, under-told w ls p q k .0 (and-right (under-passes ls w p q) (same t p q) e))
 case-true (apart-under ls w p q) e =
-    let t = replaced (alike-pairs ls) (listed w) in
+    let t = listed-under ls w in
     let k = and-left (under-passes ls w p q) (not (same t p q)) e in
     let no = not-true (same t p q) (and-right (under-passes ls w p q) (not (same t p q)) e) in
     (under-accepted w ls p q k, λ b. never-both (same t p q) (under-told w ls p q k .1 b) no)

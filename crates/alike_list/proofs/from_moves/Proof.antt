@@ -1,13 +1,13 @@
 -- `alike_list::from_moves` meets its contract. The loop's invariant: the from-moves of the pairs passed stand in the row, and what was found
 -- with what is left tells whether one stands twice. Assumes nothing.
-use mathlib.Core.Path.{sym, subst, _∙_}
-use mathlib.Core.Bool.{Bool}
+use mathlib.Core.Path.{sym, _∙_}
 use mathlib.Core.Logic.{⊎-elim}
 use Prim.Native.Nat.{_+_, _*_, _-_, _≤_, _<_}
 use native.Mathlib.Omega.{arith}
-use lib.ListN.{length, set}
+use lib.ListN.{length}
 use Rattle.alike_list.specs.PairArrays.{WholePairs}
-use Rattle.alike_list.proofs.ReadPairs.{FromsRead, froms-begin, froms-size, froms-end, froms-found, froms-new}
+use Rattle.alike_list.proofs.MoveRows.{found-now, found-not}
+use Rattle.alike_list.proofs.ReadPairs.{FromsRead, froms-begin, froms-size, froms-end, froms-next}
 use Rattle.alike_list.proofs.from_moves.Statement.{statement}
 use Rattle.alike_list.proofs.from_moves.Tie as tie
 
@@ -37,17 +37,11 @@ module _ (c : tie.In-loop Inv-loop μ-loop) where
 loop-again : tie.Need-loop-again Inv-loop μ-loop
 loop-again c =
     let d = c .before .before .before .before in
-    let v = d .before .loop in
-    let s = v .inv .1 in
     let m = c .before .before .before .move-at2 in
     let t = c .before .stands .ensures in (
       w d,
-      ⊎-elim
-          (λ x. subst (λ (b : Bool). FromsRead (w d) (v .k + 1) b (set (v .row) (v .k) (m .result))) (sym (x .1))
-          (froms-found (w d) s (d .loop-test .taken) (m .result) (m .ensures .is) (sym t ∙ x .0 .taken)))
-          (λ x. subst (λ (b : Bool). FromsRead (w d) (v .k + 1) b (set (v .row) (v .k) (m .result))) (sym (x .1))
-          (froms-new (w d) s (d .loop-test .taken) (m .result) (m .ensures .is) (sym t ∙ x .0 .left)))
-          (c .if1 .came),
+      froms-next (w d) (d .before .loop .inv .1) (d .loop-test .taken) (m .result) (m .ensures .is)
+          (⊎-elim (λ x. found-now (d .before .loop .clash) _ (sym t ∙ x .0 .taken) (x .1)) (λ x. found-not (d .before .loop .clash) _ (sym t ∙ x .0 .left) (x .1)) (c .if1 .came)),
     )
 
 returns : tie.Need-returns Inv-loop μ-loop

@@ -7,7 +7,8 @@ use native.Mathlib.Omega.{arith}
 use borrow.Author.Needs.{needs}
 use lib.ListN.{take}
 use Rattle.rules.specs.Places.{move-in, with-move}
-use Rattle.alike_list.specs.PairArrays.{stands-in, sum-at, counts-as}
+use Rattle.alike.specs.Alike.{stands-in}
+use Rattle.alike_list.specs.PairArrays.{sum-at, counts-as}
 use Rattle.alike_list.proofs.ReplacedPlaces.{place-of-eight, own-move}
 use Rattle.alike_list.proofs.replace_move.Statement.{statement}
 use Rattle.alike_list.proofs.replace_move.Tie as tie

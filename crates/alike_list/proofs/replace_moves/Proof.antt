@@ -9,7 +9,7 @@ use lib.ListN.{length, take, drop, length-append, length-drop, length-take}
 use lib.Seq.{take-at, drop-at, drop-drop}
 use Rattle.rules.specs.Places.{move-in, with-move}
 use Rattle.alike_list.specs.PairArrays.{counts-as, with-moves}
-use Rattle.alike_list.proofs.ReplacedPlaces.{place-at, moves-length, moves-more}
+use Rattle.alike_list.proofs.ReplacedPlaces.{moved, moves-length, moves-more}
 use Rattle.alike_list.proofs.replace_moves.Statement.{statement}
 use Rattle.alike_list.proofs.replace_moves.Tie as tie
 
@@ -27,16 +27,16 @@ module _ (f : ℕ → ℕ) (i : ℕ) (rs xs : List ℕ) (h : 8 * i ≤ length rs
   many : length (with-moves f i rs) ≡ 8 * i
   many = moves-length f i rs h
 
-  pub whole : length xs ≡ length rs
+  whole : length xs ≡ length rs
   whole = ap length e ∙ length-append (with-moves f i rs) (drop (8 * i) rs) ∙ omega (arith, many, length-drop (8 * i) rs)
 
   left : drop (8 * i) xs ≡ drop (8 * i) rs
   left = ap (drop (8 * i)) e ∙ drop-at (with-moves f i rs) (drop (8 * i) rs) (8 * i) many
 
-  pub next-place : take (8 * i + 8 - 8 * i) (drop (8 * i) xs) ≡ place-at f rs i
+  next-place : take (8 * i + 8 - 8 * i) (drop (8 * i) xs) ≡ take 8 (drop (8 * i) rs)
   next-place = let n : 8 * i + 8 - 8 * i ≡ 8 = omega arith in ap₂ (λ (m : ℕ) (l : List ℕ). take m l) n left
 
-  pub next-passed : (new : List ℕ) → new ≡ with-move (f (move-in (place-at f rs i))) (place-at f rs i) →
+  next-passed : (new : List ℕ) → new ≡ moved f (take 8 (drop (8 * i) rs)) →
       putMid (8 * i) (8 * i + 8 - 8 * i) xs new ≡ passed f (i + 1) rs
   next-passed new d =
       let n : 8 * i + 8 - 8 * i ≡ 8 = omega arith in
@@ -46,7 +46,7 @@ module _ (f : ℕ → ℕ) (i : ℕ) (rs xs : List ℕ) (h : 8 * i ≤ length rs
       ap₂ (λ (j : ℕ) (l : List ℕ). drop j l) n left ∙ drop-drop 8 (8 * i) rs ∙ ap (λ (j : ℕ). drop j rs) m in
       let front : take (8 * i) xs ≡ with-moves f i rs = ap (take (8 * i)) e ∙ take-at (with-moves f i rs) (drop (8 * i) rs) (8 * i) many in
       (λ j. front j ++ (d j ++ behind j))
-      ∙ sym (append-assoc (with-moves f i rs) (with-move (f (move-in (place-at f rs i))) (place-at f rs i)) (drop (8 * (i + 1)) rs))
+      ∙ sym (append-assoc (with-moves f i rs) (moved f (take 8 (drop (8 * i) rs))) (drop (8 * (i + 1)) rs))
       ∙ ap (λ (l : List ℕ). l ++ drop (8 * (i + 1)) rs) (sym (moves-more f i rs) ∙ ap (λ (k : ℕ). with-moves f k rs) next)
 
 loop-holds : tie.Need-loop-holds Inv-loop μ-loop

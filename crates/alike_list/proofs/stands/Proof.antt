@@ -1,12 +1,14 @@
 -- `alike_list::stands` meets its contract. The loop's invariant: it is found, or stands in what is left. Assumes nothing.
 use mathlib.Core.Path.{_≡_, refl, sym, ap, _∙_}
 use mathlib.Core.Logic.{⊎-elim}
-use mathlib.Core.Bool.{Bool, _||_}
+use mathlib.Core.Bool.{Bool, _||_, or-false}
 use Prim.Native.Nat.{_+_, _-_, _≤_}
 use native.Mathlib.Omega.{arith}
-use lib.ListN.{drop}
-use Rattle.alike_list.specs.PairArrays.{stands-in}
-use Rattle.alike_list.proofs.MoveRows.{found-more, not-found, found-end}
+use lib.Dec.{eqb}
+use lib.ListN.{getD, drop}
+use borrow.Author.Tests.{eq-eqb, ne-eqb}
+use Rattle.alike.specs.Alike.{stands-in}
+use Rattle.alike_list.proofs.MoveRows.{found-now, found-not, found-next, stands-next, stands-end}
 use Rattle.alike_list.proofs.stands.Statement.{statement}
 use Rattle.alike_list.proofs.stands.Tie as tie
 
@@ -19,23 +21,23 @@ abbrev μ-loop : tie.MeasureT-loop
 loop-again : tie.Need-loop-again Inv-loop μ-loop
 loop-again c =
     let v = c .before .before .before in
-    let s = v .before in
-    let row = s .args .row .now in
-    let a = s .args .action in
+    let row = v .before .args .row .now in
+    let a = v .before .args .action in
     let k = v .loop .k in
-    let rest = stands-in (drop (k + 1) row) a in (
+    let b = getD row k 0 in (
       omega arith,
-      ⊎-elim
-          (λ w. ap (λ (b : Bool). b || rest) (w .1) ∙ found-more row k a (v .loop .found) (omega arith) (w .0 .taken) ∙ v .loop .inv .1)
-          (λ w. ap (λ (b : Bool). b || rest) (w .1) ∙ not-found row k a (v .loop .found) (omega arith) (w .0 .left) ∙ v .loop .inv .1)
-          (c .if1 .came),
+      found-next (v .loop .found) (eqb b a) (stands-in (drop (k + 1) row) a)
+          (⊎-elim (λ w. found-now (v .loop .found) (eqb b a) (eq-eqb b a (w .0 .taken)) (w .1)) (λ w. found-not (v .loop .found) (eqb b a) (ne-eqb b a (w .0 .left)) (w .1)) (c .if1 .came))
+          ∙ ap (λ (x : Bool). v .loop .found || x) (sym (stands-next row k a (omega arith))) ∙ v .loop .inv .1,
     )
 
 returns : tie.Need-returns Inv-loop μ-loop
 returns c =
     let v = c .before in
     let s = v .before in
-    sym (found-end (s .args .row .now) (v .loop .k) (s .args .action) (v .loop .found) (omega arith)) ∙ v .loop .inv .1
+    sym (or-false (v .loop .found))
+    ∙ ap (λ (x : Bool). v .loop .found || x) (sym (stands-end (s .args .row .now) (v .loop .k) (s .args .action) (omega arith)))
+    ∙ v .loop .inv .1
 
 pub stands-spec : {M : Type 1} → statement M
 stands-spec =

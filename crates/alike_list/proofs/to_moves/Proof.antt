@@ -1,14 +1,17 @@
 -- `alike_list::to_moves` meets its contract. The loop's invariant: the to-moves of the pairs passed stand in the row, and what was found
 -- with what is left tells whether one stands twice. Assumes nothing.
-use mathlib.Core.Path.{sym, ap, subst, _∙_}
-use mathlib.Core.Bool.{Bool}
+use mathlib.Core.Path.{ap, _∙_}
 use mathlib.Core.List.{List}
 use mathlib.Core.Logic.{⊎-elim}
 use Prim.Native.Nat.{ℕ, _+_, _*_, _-_, _≤_, _<_}
 use native.Mathlib.Omega.{arith}
-use lib.ListN.{length, set}
-use Rattle.alike_list.specs.PairArrays.{WholePairs, stands-in}
-use Rattle.alike_list.proofs.ReadPairs.{froms-length, TosRead, tos-begin, tos-end, tos-found, tos-new}
+use lib.ListN.{length}
+use Rattle.alike.specs.Alike.{stands-in}
+use Rattle.alike_list.specs.PairArrays.{WholePairs}
+use Rattle.alike_list.proofs.PairLists.{whole-length}
+use Rattle.alike_list.proofs.CountedMoves.{froms-size}
+use Rattle.alike_list.proofs.MoveRows.{found-now, found-not}
+use Rattle.alike_list.proofs.ReadPairs.{TosRead, tos-begin, tos-end, tos-next}
 use Rattle.alike_list.proofs.to_moves.Statement.{statement}
 use Rattle.alike_list.proofs.to_moves.Tie as tie
 
@@ -35,23 +38,18 @@ module _ (c : tie.In-loop Inv-loop μ-loop) where
 loop-again : tie.Need-loop-again Inv-loop μ-loop
 loop-again c =
     let d = c .before .before .before in
-    let v = d .before .loop in
-    let s = v .inv .1 in
     let m = c .before .before .move-at in
     let t = c .before .stands .ensures ∙ ap (λ (l : List ℕ). stands-in l (m .result)) (d .before .before .before .pre .1) in (
       w d,
-      ⊎-elim
-          (λ x. subst (λ (b : Bool). TosRead (w d) (v .k + 1) b (set (v .row) (v .k) (m .result))) (sym (x .1))
-          (tos-found (w d) s (d .loop-test .taken) (m .result) (m .ensures .is) (m .ensures .small) t (x .0 .taken)))
-          (λ x. subst (λ (b : Bool). TosRead (w d) (v .k + 1) b (set (v .row) (v .k) (m .result))) (sym (x .1))
-          (tos-new (w d) s (d .loop-test .taken) (m .result) (m .ensures .is) (m .ensures .small) t (x .0 .left)))
-          (c .if1 .came),
+      tos-next (w d) (d .before .loop .inv .1) (d .loop-test .taken) (m .result) (m .ensures .is) (m .ensures .small) t
+          (⊎-elim (λ x. found-now (d .before .loop .clash) _ (x .0 .taken) (x .1)) (λ x. found-not (d .before .loop .clash) _ (x .0 .left) (x .1)) (c .if1 .came)),
     )
 
 stands-requires : tie.Need-stands-requires Inv-loop μ-loop
 stands-requires c κs =
     let s = c .before .before .before .before in
-    ap length (s .pre .1) ∙ froms-length (s .pre .0)
+    let g = s .pre .0 in
+    ap length (s .pre .1) ∙ froms-size _ (omega (arith, whole-length g, g .few))
 
 returns : tie.Need-returns Inv-loop μ-loop
 returns c = let (w, s) = c .before .loop .inv in tos-end w s (c .loop-test .left)
