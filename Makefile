@@ -11,7 +11,7 @@ PREFIX ?= /usr/local
 DESTDIR ?=
 SECONDS ?= 300
 AGE ?= 1
-VERSION = 3.2.0
+VERSION = 3.3.0
 
 ARCHIVE ?= target/staticlib/libgindrazoma.a
 PLANLOOK ?= target/bin/planlook
@@ -29,6 +29,7 @@ STAGES += images    # gindrazoma_read_image, gindrazoma_write_image
 STAGES += norms     # gindrazoma_plan_norm, gindrazoma_nth_move, gindrazoma_shortest_run
 STAGES += sameness  # gindrazoma_compare, gindrazoma_prime_form
 STAGES += alike     # gindrazoma_compare_alike, gindrazoma_prime_form_alike
+STAGES += logs      # gindrazoma_replay_log
 STAGES += whole     # every call of the header together
 STAGES += planlook  # the program, and what is installed
 
@@ -38,6 +39,7 @@ CHECKS_images   = $(call library-checks,images)
 CHECKS_norms    = $(call library-checks,norms)
 CHECKS_sameness = $(call library-checks,sameness)
 CHECKS_alike    = $(call library-checks,alike)
+CHECKS_logs     = $(call library-checks,logs)
 CHECKS_whole    = symbols names c-load memory-c-load plain example
 CHECKS_planlook = samples rust-look install
 library-checks  = c-$(1) pages-c-$(1) memory-c-$(1) rust-$(1) memory-rust-$(1) wrapper-$(1)
@@ -118,8 +120,8 @@ callgrind: $(ARCHIVE)
 
 soak: $(ARCHIVE)
 	@$(CARGO) build -q --release -p outside
-	@status=0; for program in images norms sameness alike; do \
-		env SECONDS=$$(($(SECONDS) / 4)) $(RUST)/$$program || status=1; \
+	@status=0; for program in images norms sameness alike logs; do \
+		env SECONDS=$$(($(SECONDS) / 5)) $(RUST)/$$program || status=1; \
 	done; exit $$status
 
 ages: old-archive $(ARCHIVE)

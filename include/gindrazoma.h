@@ -11,7 +11,8 @@
  *  - gives back one signed number: a refusal is its number (enum gindrazoma_refusal) made negative;
  *    any other answer is 0 or more and is named at the call.
  *  - makes its checks in this order: 1 of the workspace; 2 to 7 of the image, each over all its blocks; 12 and
- *    13 of the alike list; 8 and 9 of the plans, each of the left and then of the right one; 10 of the output.
+ *    13 of the alike list; 8 and 9 of the plans, each of the left and then of the right one; 11 of the log; 10 of
+ *    the output.
  *    The first that fails is the answer. A call makes only the checks of what it was given.
  *  - keeps nothing: no memory is allocated and no variable outlives the call. The same input gives the same
  *    answer and the same bytes. Any number of threads may call at once, each on areas of its own.
@@ -20,7 +21,7 @@
  *  - An area is a pointer to as many bytes as its length says. Areas of any length are accepted.
  *  - A NULL pointer is allowed with length 0 only.
  *  - An area that is written to (output, workspace) overlaps no other area of the call. Areas that are
- *    only read (image, alike list, rules, plans) may coincide.
+ *    only read (image, alike list, rules, plans, log) may coincide.
  *  - Where one of these does not hold, what the call does is undefined, in C's sense of the word.
  *  - After a refusal the output area keeps its bytes. After an answer, its bytes beyond the answer's
  *    output keep theirs. No byte of the output is written before refusal 10 is excluded.
@@ -35,6 +36,7 @@
  *    that one replacement is all there is; a to-move may stand often, and moves that no rule makes may stand.
  *  - A list of length 0 is no list: the call answers as the one without a list does.
  *  - Norms do not depend on a list. Shortest runs and the n-th move show moves as the table has them.
+ *  - A log that is replayed under a list has its moves replaced too.
  *  - Prime forms are made for one list: forms made under different lists are not to be compared.
  */
 #ifndef GINDRAZOMA_H
@@ -45,9 +47,9 @@
 
 /* The version of this header, and of the archive that it belongs to. */
 #define GINDRAZOMA_VERSION_MAJOR 3
-#define GINDRAZOMA_VERSION_MINOR 2
+#define GINDRAZOMA_VERSION_MINOR 3
 #define GINDRAZOMA_VERSION_PATCH 0
-#define GINDRAZOMA_VERSION "3.2.0"
+#define GINDRAZOMA_VERSION "3.3.0"
 
 #ifdef __cplusplus
 extern "C" {
@@ -65,6 +67,7 @@ enum gindrazoma_refusal {
     GINDRAZOMA_NO_SUCH_JOB = 8,     /* a plan names a job at or above the count */
     GINDRAZOMA_PLAN_NORM_HIGH = 9,  /* a plan has a norm above 4,096 */
     GINDRAZOMA_OUTPUT_SHORT = 10,   /* the output area is shorter than the output */
+    GINDRAZOMA_LOG_LENGTH = 11,     /* the log has more than 128 moves, or half a move at its end */
     GINDRAZOMA_ALIKE_LENGTH = 12,   /* the alike list has more than 32 pairs, or an unfinished one at its end */
     GINDRAZOMA_ALIKE_CLASH = 13     /* a from-move stands twice in the alike list, or stands in it as a to-move */
 };
@@ -77,11 +80,13 @@ enum {
     GINDRAZOMA_JOB_NORM_MAX = 512,   /* norm of a job */
     GINDRAZOMA_PLAN_NORM_MAX = 4096, /* norm of a plan; its jobs are no more than that */
     GINDRAZOMA_PAIRS_MAX = 32,       /* pairs of an alike list */
+    GINDRAZOMA_LOG_MAX = 128,        /* moves of a log */
     GINDRAZOMA_IMAGE_MAX = 2048,     /* bytes of an image: what the writer writes */
     GINDRAZOMA_WORKSPACE = 65536,    /* bytes that a workspace needs */
 
     /* Lengths in bytes. Those of output are enough for every accepted input. */
     GINDRAZOMA_RULE_BYTES = 8,       /* a rule: job, the move's low byte, number of jobs after, four bytes for them, the move's high byte */
+    GINDRAZOMA_MOVE_BYTES = 2,       /* a move of a log: the low byte first */
     GINDRAZOMA_PAIR_BYTES = 4,       /* a pair of an alike list: from-move and to-move, the low byte first */
     GINDRAZOMA_BLOCK_BYTES = 512,    /* a block of an image, with places for 63 rules */
     GINDRAZOMA_RULE_LIST_MAX = 2016, /* a rule list: what the writer takes */
@@ -183,6 +188,21 @@ int32_t gindrazoma_compare_alike(const uint8_t *image, size_t image_len, const u
 int32_t gindrazoma_prime_form_alike(const uint8_t *image, size_t image_len, const uint8_t *alike, size_t alike_len,
                                     const uint8_t *plan, size_t plan_len, uint8_t *out, size_t out_len,
                                     uint8_t *space, size_t space_len);
+
+/*
+ * Replays a log of moves on a plan, under an alike list. A log is a row of moves, two bytes each with the low byte
+ * first. A run of the plan is a row of moves that it can make one after the other, and a complete run is one that
+ * leads to the empty plan. Moves match if they count as the same by the list. Where several rules make one move,
+ * each of them is followed: the answer is about whether there is such a run.
+ *
+ * Answer: 1 ("whole") if the log is a complete run of the plan; else 0 ("part") if some complete run begins with it;
+ * else 2 plus the least place in the log, from 0, such that no run begins with the log up to and including the
+ * move there: 2 to 129. An empty log is whole on the empty plan and part on any other.
+ * Refusals: 1, 2, 3, 4, 5, 6, 7, 12, 13, 8, 9, 11, in this order.
+ */
+int32_t gindrazoma_replay_log(const uint8_t *image, size_t image_len, const uint8_t *alike, size_t alike_len,
+                              const uint8_t *plan, size_t plan_len, const uint8_t *log, size_t log_len,
+                              uint8_t *space, size_t space_len);
 
 #ifdef __cplusplus
 }

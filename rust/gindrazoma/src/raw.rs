@@ -38,9 +38,11 @@ pub const AFTER_MAX: usize = 4;
 pub const JOB_NORM_MAX: usize = 512;
 pub const PLAN_NORM_MAX: usize = 4096;
 pub const PAIRS_MAX: usize = 32;
+pub const LOG_MAX: usize = 128;
 pub const IMAGE_MAX: usize = 2048;
 pub const WORKSPACE: usize = 65536;
 pub const RULE_BYTES: usize = 8;
+pub const MOVE_BYTES: usize = 2;
 pub const PAIR_BYTES: usize = 4;
 pub const BLOCK_BYTES: usize = 512;
 pub const RULE_LIST_MAX: usize = 2016;
@@ -59,4 +61,5 @@ calls! {
     fn prime_form(image: &[u8], plan: &[u8], out: &mut [u8], space: &mut [u8]);
     fn compare_alike(image: &[u8], alike: &[u8], left: &[u8], right: &[u8], space: &mut [u8]);
     fn prime_form_alike(image: &[u8], alike: &[u8], plan: &[u8], out: &mut [u8], space: &mut [u8]);
+    fn replay_log(image: &[u8], alike: &[u8], plan: &[u8], log: &[u8], space: &mut [u8]);
 }

@@ -14,11 +14,12 @@ pub enum Refusal {
     NoSuchJob = 8,
     PlanNormHigh = 9,
     OutputShort = 10,
+    LogLength = 11,
     AlikeLength = 12,
     AlikeClash = 13,
 }
 
-const ALL: [(Refusal, &str); 12] = [
+const ALL: [(Refusal, &str); 13] = [
     (Refusal::WorkspaceShort, "the workspace is shorter than 65,536 bytes"),
     (Refusal::BadLength, "the image is not 1 to 4 blocks, or the rules are not 1 to 252"),
     (Refusal::BadChecksum, "the checksum of a block is wrong"),
@@ -29,6 +30,7 @@ const ALL: [(Refusal, &str); 12] = [
     (Refusal::NoSuchJob, "a plan names a job at or above the count"),
     (Refusal::PlanNormHigh, "a plan has a norm above 4,096"),
     (Refusal::OutputShort, "the output area is shorter than the output"),
+    (Refusal::LogLength, "the log has more than 128 moves, or half a move at its end"),
     (Refusal::AlikeLength, "the alike list has more than 32 pairs, or an unfinished one"),
     (Refusal::AlikeClash, "a from-move stands twice in the alike list, or stands in it as a to-move"),
 ];
