@@ -13,8 +13,10 @@ use Rattle.order.specs.Order.{ordered}
 use Rattle.order.proofs.OrderedJobs.{place-below, place-complete, place-rising, place-earlier}
 use Rattle.first_run.specs.FirstRun.{run-of}
 use Rattle.area.specs.Numbers.{all-low-first}
-use Rattle.choices.specs.Choices.{LeastChains, ChainFrom, Picks, short-row, Chosen, Keeps}
-use Rattle.choices.proofs.LoweringRules.{one-lowers, picked}
+use Rattle.lowering.specs.Lowering.{Picks, short-row, Chosen}
+use Rattle.least_moves.specs.Chains.{LeastChains, ChainFrom}
+use Rattle.choices.specs.Choices.{Keeps}
+use Rattle.lowering.proofs.LoweringRules.{one-lowers, picked}
 
 pub record KnownJob (n : ℕ) (rs ns low rows : List ℕ) (j : ℕ) : Type 0 where
   pub picks : Picks n rs ns j (getD low j 0)

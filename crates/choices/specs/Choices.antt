@@ -1,94 +1,12 @@
--- The rule by which the first shortest run of each job begins, and the runs of short jobs as rows of bytes. Assumes nothing: these are
--- definitions.
+-- The rows of short jobs, kept once a rule is chosen. Assumes nothing: these are definitions.
 use mathlib.Core.Path.{_≡_}
-use mathlib.Core.List.{List, _∷_}
-use Prim.Native.Nat.{ℕ, suc, _+_, _*_, _≤_, _<_}
-use lib.ListN.{length, getD, take, drop}
-use Rattle.bpa.specs.Norms.{sum-of}
-use Rattle.bpa.specs.Method.{expand}
-use Rattle.rules.specs.Places.{rule-at, rule-count, table-of}
-use Rattle.area.specs.Areas.{put}
+use mathlib.Core.List.{List}
+use Prim.Native.Nat.{ℕ, _≤_}
+use lib.ListN.{getD}
 use Rattle.area.specs.Numbers.{all-low-first}
-use Rattle.first_run.specs.FirstRun.{Before, run-of}
-
--- the rule at a place lowers the norm of a job by one
-pub record Lowers (rs ns : List ℕ) (j i : ℕ) : Type 0 where
-  pub place : i < rule-count rs
-  pub job : rule-at rs i .job ≡ j
-  pub falls : getD ns j 0 ≡ suc (sum-of ns (rule-at rs i .after))
-
--- and that norm is at most a bound
-pub record LowersWithin (rs ns : List ℕ) (bound j i : ℕ) : Type 0 where
-  pub within : getD ns j 0 ≤ bound
-  pub lowers : Lowers rs ns j i
-
--- a rule of a job whose move is not greater than those of the norm-lowering rules from a position on
-pub record Least (rs ns : List ℕ) (j from i : ℕ) : Type 0 where
-  pub lowers : Lowers rs ns j i
-  pub after : from ≤ i
-  pub least : (k : ℕ) → from ≤ k → Lowers rs ns j k → rule-at rs i .move ≤ rule-at rs k .move
-
--- a rule may come to stand before the one that a chain begins with so far: there is none, or that one's move is not lesser
-abbrev pub NotLater : (rules : List ℕ) → (i first : ℕ) → Type 0
-NotLater rs i f = f < rule-count rs → rule-at rs i .move ≤ rule-at rs f .move
-
--- what follows it then: that rule if the moves are equal, and else none
-pub record Follows (rs : List ℕ) (i first r : ℕ) : Type 0 where
-  pub within : r ≤ rule-count rs
-  pub tie : first < rule-count rs → rule-at rs i .move ≡ rule-at rs first .move → r ≡ first
-  pub none : (first < rule-count rs → rule-at rs i .move ≡ rule-at rs first .move → ⊥) → rule-count rs ≤ r
-
--- the first rule of least move from a position on; the number of rules if the job has no norm-lowering rule there
-pub record FirstLeast (rs ns : List ℕ) (j from to : ℕ) : Type 0 where
-  pub within : to ≤ rule-count rs
-  pub own : to < rule-count rs → Least rs ns j from to
-  pub before : (k : ℕ) → Least rs ns j from k → to ≤ k
-  pub some : (k : ℕ) → from ≤ k → Lowers rs ns j k → to < rule-count rs
-
--- the next rule with the same move behind one of least move; the number of rules if there is none
-pub record NextTie (rs ns : List ℕ) (j i to : ℕ) : Type 0 where
-  pub rises : i < to
-  pub within : to ≤ rule-count rs
-  pub own : to < rule-count rs → Lowers rs ns j to × (rule-at rs to .move ≡ rule-at rs i .move)
-  pub between : (k : ℕ) → i < k → k < to → Lowers rs ns j k → rule-at rs k .move ≡ rule-at rs i .move → ⊥
-
--- CHAINS of such rules: for each job whose norm is at most a bound the first rule of least move, and after each that is of least move from its
--- own place on the next with its move
-pub record LeastChains (rs ns : List ℕ) (bound : ℕ) (first next : List ℕ) : Type 0 where
-  pub starts : (j : ℕ) → j < 24 → getD ns j 0 ≤ bound → FirstLeast rs ns j 0 (getD first j 0)
-  pub goes-on : (j i : ℕ) → getD ns j 0 ≤ bound → Least rs ns j i i → NextTie rs ns j i (getD next i 0)
-
--- a chain of a job from its first rule on
-pub record ChainFrom (rs ns next : List ℕ) (j start : ℕ) : Type 0 where
-  pub own : Least rs ns j 0 start
-  pub none : (i : ℕ) → i < start → Least rs ns j 0 i → ⊥
-  pub goes-on : (i : ℕ) → Least rs ns j i i → NextTie rs ns j i (getD next i 0)
-
--- the run by a rule: its move, then the first runs of the jobs after it
-unfoldable pub run-by : (jobs : ℕ) → (rules : List ℕ) → (i : ℕ) → List ℕ
-run-by n rs i = rule-at rs i .move ∷ expand (run-of (table-of n rs)) (rule-at rs i .after)
-
--- a rule of a job by which no run comes before that of another
-pub record Picks (n : ℕ) (rs ns : List ℕ) (j i : ℕ) : Type 0 where
-  pub lowers : Lowers rs ns j i
-  pub first : (k : ℕ) → Lowers rs ns j k → Before (run-by n rs k) (run-by n rs i) → ⊥
-
--- THE ROW OF A SHORT JOB, of a norm of at most 85, among 24 rows of 170 bytes: two bytes a move
-unfoldable pub short-row : (norms rows : List ℕ) → (job : ℕ) → List ℕ
-short-row ns rows j = take (2 * getD ns j 0) (drop (170 * j) rows)
-
--- WHAT IS KNOWN of the jobs whose norm is below a bound: the rule by which the first run begins, and the run itself of a short job
-pub record Chosen (n : ℕ) (rs ns low rows : List ℕ) (bound : ℕ) : Type 0 where
-  pub size : length rows ≡ 4080
-  pub picks : (j : ℕ) → j < n → getD ns j 0 < bound → Picks n rs ns j (getD low j 0)
-  pub row : (j : ℕ) → j < n → getD ns j 0 < bound → getD ns j 0 ≤ 85 → short-row ns rows j ≡ all-low-first (run-of (table-of n rs) j)
+use Rattle.lowering.specs.Lowering.{run-by, short-row}
 
 -- the row of a job, if it is short, is the run by a rule; the other rows are kept
 pub record Keeps (n : ℕ) (rs ns : List ℕ) (job rule : ℕ) (rows rows′ : List ℕ) : Type 0 where
   pub row : getD ns job 0 ≤ 85 → short-row ns rows′ job ≡ all-low-first (run-by n rs rule)
   pub others : (j : ℕ) → (j ≡ job → ⊥) → getD ns j 0 ≤ 85 → short-row ns rows′ j ≡ short-row ns rows j
-
--- jobs put before those on a stack
-pub record Pushed (after stack : List ℕ) (top r : ℕ) (stack′ : List ℕ) : Type 0 where
-  pub fits : r + length after ≡ top
-  pub output : stack′ ≡ put r after stack

@@ -1,2 +1,2 @@
--- The rules by which first shortest runs go.
+-- The rows of short jobs.
 pub mod Choices

@@ -1,7 +1,7 @@
 // The first shortest run of a plan: the first runs of its jobs, one behind the other.
 use area::wide;
-use choices::make_run;
 use norm::norm_of;
+use rule_runs::make_run;
 ghost use mathlib.Core.Path.{_≡_};
 ghost use mathlib.Core.Bool.{true};
 ghost use mathlib.Core.List.{_++_};
@@ -14,7 +14,7 @@ ghost use Rattle.bpa.specs.Norms.{sum-of, norm};
 ghost use Rattle.rules.specs.Places.{table-of};
 ghost use Rattle.norm.specs.NormArrays.{GoodNorms};
 ghost use Rattle.first_run.specs.FirstRun.{first-run};
-ghost use Rattle.choices.specs.Choices.{Chosen};
+ghost use Rattle.lowering.specs.Lowering.{Chosen};
 
 // A row of bytes put into an area at a place. A short one is put as 16 bytes, whatever its length, if there is room: what then stands behind it
 // is left open.

@@ -8,7 +8,9 @@ use lib.ListN.{getD, take, set}
 use Rattle.rules.specs.Places.{rule-at}
 use Rattle.order.specs.Order.{ordered}
 use Rattle.order.proofs.OrderedJobs.{place-below}
-use Rattle.choices.specs.Choices.{Lowers, ChainFrom, Picks, Chosen, Keeps}
+use Rattle.lowering.specs.Lowering.{Lowers, Picks, Chosen}
+use Rattle.least_moves.specs.Chains.{ChainFrom}
+use Rattle.choices.specs.Choices.{Keeps}
 use Rattle.choices.proofs.KnownJobs.{Known, chosen-less, chain-of, chosen-all, chosen-below, known-more}
 use Rattle.choices.proofs.choose.Statement.{statement}
 use Rattle.choices.proofs.choose.Tie as tie

@@ -10,9 +10,9 @@ use Rattle.rules.proofs.ListLaws.{good-rule}
 use Rattle.area.specs.Areas.{put}
 use Rattle.area.specs.Numbers.{low-first, all-low-first}
 use Rattle.area.proofs.Numbers.{all-length}
-use Rattle.choices.specs.Choices.{run-by, short-row}
-use Rattle.choices.proofs.LoweringRules.{run-by-length, only-move}
-use Rattle.choices.proofs.ShortRows.{row-put, row-kept, made-front}
+use Rattle.lowering.specs.Lowering.{run-by, short-row}
+use Rattle.lowering.proofs.LoweringRules.{run-by-length, only-move}
+use Rattle.lowering.proofs.ShortRows.{row-put, row-kept, made-front}
 use Rattle.choices.proofs.keep_row.Statement.{statement}
 use Rattle.choices.proofs.keep_row.Tie as tie
 

@@ -22,7 +22,7 @@ use Rattle.area.proofs.PutLaws.{put-front}
 use Rattle.answer.proofs.Answers.{too-short, written}
 use Rattle.first_run.specs.FirstRun.{first-run}
 use Rattle.first_run.proofs.FirstRuns.{first-run-length}
-use Rattle.choices.specs.Choices.{Chosen}
+use Rattle.lowering.specs.Lowering.{Chosen}
 use Rattle.runs.proofs.shortest_run.Statement.{statement}
 use Rattle.runs.proofs.shortest_run.Tie as tie
 

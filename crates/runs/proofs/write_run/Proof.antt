@@ -12,8 +12,8 @@ use Rattle.first_run.specs.FirstRun.{run-of}
 use Rattle.area.specs.Numbers.{all-low-first}
 use Rattle.area.proofs.Numbers.{all-length}
 use Rattle.area.proofs.Puts.{put-up-to}
-use Rattle.choices.specs.Choices.{Lowers, run-by, Picks, short-row, Chosen}
-use Rattle.choices.proofs.LoweringRules.{picked, run-by-length}
+use Rattle.lowering.specs.Lowering.{Lowers, run-by, Picks, short-row, Chosen}
+use Rattle.lowering.proofs.LoweringRules.{picked, run-by-length}
 use Rattle.choices.proofs.KnownJobs.{chosen-less}
 use Rattle.runs.proofs.PlanRun.{Writing, writing-start, writing-end, next-below, next-known, next-room, writing-more}
 use Rattle.runs.proofs.write_run.Statement.{statement}

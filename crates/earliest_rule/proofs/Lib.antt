@@ -1,0 +1,2 @@
+-- Laws of the search for the earliest run.
+pub mod EarliestRule

@@ -1,0 +1,2 @@
+-- Laws of chains of rules.
+pub mod ChainsMade

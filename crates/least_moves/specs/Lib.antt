@@ -1,0 +1,2 @@
+-- Chains of rules.
+pub mod Chains

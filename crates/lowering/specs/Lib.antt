@@ -1,0 +1,2 @@
+-- Rules that lower a norm by one.
+pub mod Lowering

@@ -1,0 +1,2 @@
+-- Laws of runs that are put together.
+pub mod RunWalk

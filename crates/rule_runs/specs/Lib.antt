@@ -1,0 +1,2 @@
+-- Jobs that wait on a stack.
+pub mod Stacks
