@@ -9,7 +9,8 @@ use Rattle.bpa.specs.Plans.{Rule}
 use Rattle.bpa.specs.Method.{Rows, expand}
 use Rattle.rules.specs.Places.{rule-at, rule-count}
 use Rattle.prepare.proofs.PassedRules.{Alike}
-use Rattle.answering.specs.Agreeing.{Agree, Agree-from, rows-for, rest-for, Answered}
+use Rattle.equal_remainders.specs.EqualRemainders.{rows-for, rest-for}
+use Rattle.answering.specs.Agreeing.{Agree, Agree-from, Answered}
 use Rattle.answering.proofs.RuleSearch.{Apart}
 
 module _ (rs sums : List ℕ) (gap : ℕ) (i k : ℕ) (same : rule-at rs i ≡ rule-at rs k) (sum : getD sums i 0 ≡ getD sums k 0) where

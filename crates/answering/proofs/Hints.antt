@@ -8,7 +8,7 @@ use Rattle.rules.specs.Places.{rule-count}
 use Rattle.prepare.specs.Prepared.{OnChain}
 use Rattle.prepare.proofs.Chains.{chain-next}
 use Rattle.answering.specs.Agreeing.{Found, Pairing}
-use Rattle.answering.specs.declared.Pair.{Pair}
+use Rattle.rule_filter.specs.declared.Pair.{Pair}
 
 abbrev pub hinted : Pair → (hint : ℕ) → Pair
 hinted p h = record {

@@ -11,7 +11,8 @@ use borrow.Author.Tests.{eqb-true, eqb-false}
 use Rattle.bpa.specs.Method.{Rows}
 use Rattle.bpa.proofs.Basics.Cases.{by-test}
 use Rattle.rules.specs.Places.{rule-at, rule-count}
-use Rattle.answering.specs.Agreeing.{Agree-from, rows-for, rest-for, Found, MineRule, Answered, Known, AllAnswered}
+use Rattle.equal_remainders.specs.EqualRemainders.{rows-for, rest-for}
+use Rattle.answering.specs.Agreeing.{Agree-from, Found, MineRule, Answered, Known, AllAnswered}
 use Rattle.prepare.proofs.PassedRules.{Passed}
 
 module _ (forward : Bool) (d e : Rows) (rs sums : List ℕ) (norm gap : ℕ) (behind tail : List ℕ) (mine other : ℕ) where

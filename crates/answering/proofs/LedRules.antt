@@ -6,8 +6,10 @@ use Prim.Native.Nat.{ℕ, _<_}
 use Rattle.bpa.specs.Method.{Rows}
 use Rattle.bpa.proofs.Basics.Cases.{never-both}
 use Rattle.rows.specs.Answers.{Decides}
-use Rattle.answering.specs.Agreeing.{Agree, Agree-from, Same-print, Same-print-from, Tells-from, MayAgree, Left-equal, lead}
-use Rattle.answering.proofs.Agreement.{denied}
+use Rattle.rule_filter.specs.RuleFilter.{Same-print, MayAgree}
+use Rattle.equal_remainders.specs.EqualRemainders.{Left-equal}
+use Rattle.answering.specs.Agreeing.{Agree, Agree-from, Same-print-from, Tells-from, lead}
+use Rattle.answering.proofs.EqualJobs.{denied}
 
 pub led-below : (forward : Bool) (r s n : ℕ) → r < n → s < n → lead forward r s < n
 led-below true r s n h k = h

@@ -14,8 +14,9 @@ use Rattle.prepare.specs.Prepared.{OnChain}
 use Rattle.prepare.proofs.Chains.{chain-start}
 use Rattle.rows.specs.Region.{row, old-half, new-half}
 use Rattle.rows.specs.Answers.{Decides}
-use Rattle.answering.specs.Agreeing.{Agree, rows-for, rest-for, MineRule, Pairing, Answered, Known, AllAnswered, RulesMatch}
-use Rattle.answering.proofs.Agreement.{denied}
+use Rattle.equal_remainders.specs.EqualRemainders.{rows-for, rest-for}
+use Rattle.answering.specs.Agreeing.{Agree, MineRule, Pairing, Answered, Known, AllAnswered, RulesMatch}
+use Rattle.answering.proofs.EqualJobs.{denied}
 
 falls-both : (s norm gap : ℕ) → ltb s (norm - gap) ≡ ltb (s + gap) norm
 falls-both s norm gap =

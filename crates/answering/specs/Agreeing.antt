@@ -10,21 +10,18 @@ use lib.Seq.{slice}
 use Rattle.bpa.specs.Plans.{all-below}
 use Rattle.bpa.specs.Method.{Rows, expand}
 use Rattle.rules.specs.Places.{rule-at, rule-count}
-use Rattle.rules.specs.Lists.{GoodList}
 use Rattle.prepare.specs.Prepared.{Chained, OnChain}
 use Rattle.rows.specs.Region.{row, Within, old-half, new-half}
-use Rattle.fingerprints.specs.Fingerprints.{modulus, join, value-from, Rule-prints}
-use Rattle.answering.specs.Remainders.{LooksUp}
+use Rattle.fingerprints.specs.Fingerprints.{modulus, join, Rule-prints}
+use Rattle.remainders.specs.Remainders.{LooksUp}
+use Rattle.rule_filter.specs.RuleFilter.{Same-print}
+use Rattle.equal_remainders.specs.EqualRemainders.{rows-for, rest-for}
 
 -- rule r of Y and rule s of X, with a row behind it as it stands: equal moves, and what they leave has equal norms and is equal by the rows
 pub record Agree (e : Rows) (rs sums : List ℕ) (gap : ℕ) (rest : List ℕ) (r s : ℕ) : Type 0 where
   pub move : rule-at rs r .move ≡ rule-at rs s .move
   pub norm : getD sums r 0 ≡ getD sums s 0 + gap
   pub equal : expand e (rule-at rs r .after) ≡ expand e (rule-at rs s .after) ++ rest
-
--- what they leave has equal fingerprints by the old rows; the tail's are given
-pub record Same-print (rs prints : List ℕ) (value power r s : ℕ) : Type 0 where
-  pub is : value-from prints 0 (rule-at rs r .after) ≡ join (value-from prints 0 (rule-at rs s .after)) power value
 
 -- the same of a rule that asks and a rule that answers; forward, the rule that asks is Y's
 abbrev pub Agree-from : (forward : Bool) → Rows → (rules sums : List ℕ) → (gap : ℕ) → (rest : List ℕ) → (asks answers : ℕ) → Type 0
@@ -38,45 +35,6 @@ Same-print-from false rs ps v p r s = Same-print rs ps v p s r
 -- rules that agree have equal fingerprints, so unequal ones show that they do not
 abbrev pub Tells-from : (forward : Bool) → Rows → (rules sums prints : List ℕ) → (gap value power : ℕ) → (rest : List ℕ) → (asks answers : ℕ) → Type 0
 Tells-from f e rs sums ps gap v p rest r s = Agree-from f e rs sums gap rest r s → Same-print-from f rs ps v p r s
-
--- the rows by which a rule is answered, and what stands behind X by them: the new ones if it makes the norm of its job fall
-unfoldable pub rows-for : (falls : Bool) → (old new : Rows) → Rows
-rows-for true d e = e
-rows-for false d e = d
-
-unfoldable pub rest-for : (falls : Bool) → (old new : List ℕ) → List ℕ
-rest-for true o n = n
-rest-for false o n = o
-
--- what the test of fingerprints asks of the rules and of the tail
-pub record Printing (rs prints : List ℕ) (value power : ℕ) : Type 0 where
-  pub jobs : ℕ
-  pub list : GoodList jobs rs
-  pub rule-prints : Rule-prints rs prints
-  pub value-small : value < modulus
-  pub power-small : power < modulus
-
--- what the tests before a comparison tell: rules that may agree have equal moves and norms of what they leave; others have not, or have
--- unequal fingerprints
-pub record MayAgree (rs sums prints : List ℕ) (gap value power r s : ℕ) (out : Bool) : Type 0 where
-  pub move : out ≡ true → rule-at rs r .move ≡ rule-at rs s .move
-  pub norm : out ≡ true → getD sums r 0 ≡ getD sums s 0 + gap
-  pub all : rule-at rs r .move ≡ rule-at rs s .move → getD sums r 0 ≡ getD sums s 0 + gap → Same-print rs prints value power r s → out ≡ true
-
--- the rows of both halves of an area, X with its tail, and a part of the old rows
-pub record Halves (rs old new area parts : List ℕ) (from to : ℕ) : Type 0 where
-  pub jobs : ℕ
-  pub list : GoodList jobs rs
-  pub size : length area ≡ 24576
-  pub old-within : Within jobs old (old-half area)
-  pub new-within : Within jobs new (new-half area)
-  pub some : 1 ≤ length parts
-  pub starts : from ≤ to
-  pub inside : to ≤ 12288
-
--- what rule r of Y and rule s of X leave, with a row behind it as it stands, is equal by the rows
-abbrev pub Left-equal : Rows → (rules rest : List ℕ) → (r s : ℕ) → Type 0
-Left-equal e rs rest r s = expand e (rule-at rs r .after) ≡ expand e (rule-at rs s .after) ++ rest
 
 -- the rule that is tried first
 pub record FirstTried (hint tries total r : ℕ) : Type 0 where

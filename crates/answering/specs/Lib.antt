@@ -1,3 +1,2 @@
--- What rules leave, and rules of two jobs that answer each other.
-pub mod Remainders
+-- Rules of two jobs that answer each other.
 pub mod Agreeing

@@ -1,53 +1,26 @@
 // Whether the rules of two jobs answer each other: those of a job Y, and those of a job X with a tail behind it. Two rules agree by some
 // rows if their moves are equal and what they leave is equal by the rows: by the new rows if the norm falls, else by the old ones.
 use area::wide;
+use equal_remainders::left_equal;
 use fingerprints::joined;
 use fingerprints::wide_print;
 use form::same_forms;
-use rules::high_differs;
-use rules::low_differs;
-use rules::rule_after;
+use remainders::remainder_norm;
+use rule_filter::Pair;
+use rule_filter::may_agree;
 use rules::rule_total;
 ghost use mathlib.Core.Path.{_≡_};
 ghost use mathlib.Core.Bool.{true};
 ghost use mathlib.Core.List.{List};
-ghost use Prim.Native.Nat.{ℕ, _≤_, _<_};
+ghost use Prim.Native.Nat.{ℕ, _≤_};
 ghost use lib.Dec.{ltb};
 ghost use lib.ListN.{getD, drop};
 ghost use lib.Seq.{slice};
 ghost use Rattle.bpa.specs.Method.{expand};
-ghost use Rattle.rules.specs.Places.{rule-count};
 ghost use Rattle.rows.specs.Region.{row, old-half, new-half};
 ghost use Rattle.rows.specs.Answers.{Decides};
-ghost use Rattle.answering.specs.Remainders.{LooksUp, LookedUp, EqualNorms};
-ghost use Rattle.answering.specs.Agreeing.{Agree-from, Same-print, Printing, MayAgree, Halves, Left-equal, rows-for, rest-for, FirstTried, RuleBehind, Found, lead, EqualOld, Pairing, MineRule, OldPair, Known, AllAnswered, RulesMatch};
-
-// The two jobs, of which `mine` asks and `other` answers; `asks` and `tries` are the places of their first rules. If Y asks, it is
-// forward. The norm is that of the job that asks. The gap is the norm of the tail, value and power are its fingerprint by the old rows, and
-// by these rows it stands in the area from `from` up to `to`: there Y's row goes on behind X's. The hint is the place of the rule that is tried
-// first.
-pub struct Pair {
-    pub forward: bool,
-    pub mine: usize,
-    pub other: usize,
-    pub asks: usize,
-    pub tries: usize,
-    pub norm: u64,
-    pub gap: u64,
-    pub value: u64,
-    pub power: u64,
-    pub from: usize,
-    pub to: usize,
-    pub hint: usize,
-}
-
-// The norm of what rule r leaves with jobs waiting behind it: the number of its row, made before the rounds, and the norm of those jobs.
-fn remainder_norm(sums: &[u16; 252], r: usize, behind: u64) -> u64
-    requires { ⌜ ((jobs : ℕ) × ((rs : List ℕ) × ((waiting : List ℕ) × (LooksUp jobs rs (now sums) waiting behind × (r < rule-count rs))))) ⌝ }
-    ensures { λ n. ⌜ LookedUp (now (sums .entry)) behind r n ⌝ }
-{
-    sums[r] as u64 + behind
-}
+ghost use Rattle.equal_remainders.specs.EqualRemainders.{rows-for, rest-for};
+ghost use Rattle.answering.specs.Agreeing.{Agree-from, FirstTried, RuleBehind, Found, lead, EqualOld, Pairing, MineRule, OldPair, Known, AllAnswered, RulesMatch};
 
 // One of two numbers: the first, or the second.
 fn pick(first: bool, a: usize, b: usize) -> usize
@@ -57,80 +30,6 @@ fn pick(first: bool, a: usize, b: usize) -> usize
         return a;
     }
     b
-}
-
-// Whether what rule r of Y and rule s of X leave has equal fingerprints, or one of them has none.
-fn same_print(rules: &[u8], prints: &[u32; 300], pair: Pair, r: usize, s: usize) -> bool
-    requires { ⌜ Printing (now rules) (now prints) (pair .value) (pair .power) ⌝ }
-    requires { ⌜ (r < rule-count (now rules)) × (s < rule-count (now rules)) ⌝ }
-    ensures { λ out. ⌜ (Same-print (now (rules .entry)) (now (prints .entry)) (pair .value) (pair .power) r s → out ≡ true) ⌝ }
-{
-    let left = wide_print(prints[48 + r]);
-    let right = wide_print(prints[48 + s]);
-    if left == 0 {
-        return true;
-    }
-    if right == 0 {
-        return true;
-    }
-    left == 1 + joined(right - 1, pair.power, pair.value)
-}
-
-// Whether rule r of Y and rule s of X may agree: their moves are equal, and what they leave has equal norms and no unequal fingerprints. It
-// is not expanded for that. Few rules that pass the other tests differ in the high byte of the move, so that it is asked last.
-fn may_agree(
-    rules: &[u8],
-    sums: &[u16; 252],
-    prints: &[u32; 300],
-    pair: Pair,
-    r: usize,
-    s: usize,
-) -> bool
-    requires { ⌜ ((jobs : ℕ) × ((waiting : List ℕ) × LooksUp jobs (now rules) (now sums) waiting (pair .gap))) ⌝ }
-    requires { ⌜ Printing (now rules) (now prints) (pair .value) (pair .power) ⌝ }
-    requires { ⌜ (r < rule-count (now rules)) × (s < rule-count (now rules)) ⌝ }
-    ensures { λ out. ⌜ MayAgree (now (rules .entry)) (now (sums .entry)) (now (prints .entry)) (pair .gap) (pair .value) (pair .power) r s out ⌝ }
-{
-    if low_differs(rules, r, s) {
-        return false;
-    }
-    if remainder_norm(sums, r, 0) != remainder_norm(sums, s, pair.gap) {
-        return false;
-    }
-    if same_print(rules, prints, pair, r, s) {
-        if high_differs(rules, r, s) {
-            return false;
-        }
-        return true;
-    }
-    false
-}
-
-// Whether what rule r of Y and rule s of X leave is equal, the tail standing behind X: by the new rows if the norm falls, else by the old ones.
-// It is written out for that, so it is asked of equal norms only.
-fn left_equal(
-    rules: &[u8],
-    old: &[u16; 24],
-    new: &[u16; 24],
-    area: &[u8],
-    parts: &[u8],
-    from: usize,
-    to: usize,
-    falls: bool,
-    r: usize,
-    s: usize,
-) -> bool
-    requires { ⌜ Halves (now rules) (now old) (now new) (now area) (now parts) from to ⌝ }
-    requires { ⌜ ((jobs : ℕ) × EqualNorms jobs (now rules) (drop 1 (now parts)) r s) ⌝ }
-    requires { ⌜ (r < rule-count (now rules)) × (s < rule-count (now rules)) ⌝ }
-    ensures { λ out. ⌜ Decides out (Left-equal (rows-for falls (row (now (old .entry)) (old-half (now (area .entry)))) (row (now (new .entry)) (new-half (now (area .entry))))) (now (rules .entry)) (rest-for falls (slice from to (now (area .entry))) (drop 1 (now (parts .entry)))) r s) ⌝ }
-{
-    let left = rule_after(rules, r);
-    let right = rule_after(rules, s);
-    if falls {
-        return same_forms(&area[12288..24576], new, left, right, &parts[1..]);
-    }
-    same_forms(&area[0..12288], old, left, right, &area[from..to])
 }
 
 // Whether rule r of the job that asks and rule s of the other agree by the rows that rule r asks for: the new ones if the norm of its job

@@ -19,7 +19,9 @@ use Rattle.fingerprints.specs.Fingerprints.{modulus, join, value-from, power-fr
 use Rattle.fingerprints.proofs.Prints.{mod-small, equal-values, equal-rows-values}
 use Rattle.facts.specs.Facts.{norms-in, jobs-in, table-by}
 use Rattle.facts.proofs.Lookups.{row-norm}
-use Rattle.answering.specs.Agreeing.{Agree, Same-print, rows-for, rest-for}
+use Rattle.rule_filter.specs.RuleFilter.{Same-print}
+use Rattle.equal_remainders.specs.EqualRemainders.{rows-for, rest-for}
+use Rattle.answering.specs.Agreeing.{Agree}
 use Rattle.decomposing.specs.Candidates.{Decomposable, Earlier-rows}
 use Rattle.decomposing.proofs.JobsOfTable.{job-below, over-by, over-below, lesser-plan}
 use Rattle.decomposing.proofs.RulePlaces.{by-rows}

@@ -19,7 +19,7 @@ use Rattle.rows.specs.Region.{row, old-half, new-half}
 use Rattle.fingerprints.proofs.Prints.{printable}
 use Rattle.facts.specs.Facts.{norms-in, jobs-in, table-by}
 use Rattle.facts.proofs.Lookups.{first-place}
-use Rattle.answering.specs.Remainders.{LooksUp}
+use Rattle.remainders.specs.Remainders.{LooksUp}
 use Rattle.answering.specs.Agreeing.{Pairing, OldPair, RulesMatch}
 use Rattle.decomposing.specs.Candidates.{Likely, CanPair, PairOf}
 use Rattle.decomposing.proofs.JobsOfTable.{job-by, job-below, over-below}

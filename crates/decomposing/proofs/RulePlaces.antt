@@ -18,7 +18,8 @@ use Rattle.rules.specs.Places.{rule-at}
 use Rattle.rules.proofs.ListLaws.{rule-of, place-of-rule}
 use Rattle.prepare.specs.Prepared.{RowNorms}
 use Rattle.facts.specs.Facts.{norms-in, jobs-in, table-by}
-use Rattle.answering.specs.Agreeing.{Agree, MineRule, RulesMatch, rows-for, rest-for}
+use Rattle.equal_remainders.specs.EqualRemainders.{rows-for, rest-for}
+use Rattle.answering.specs.Agreeing.{Agree, MineRule, RulesMatch}
 
 -- THE ROWS by which a rule is answered, and what stands behind X by them
 module _ (d e : Rows) (behind tail : List ℕ) (P : Rows → List ℕ → Type 0) where

@@ -1,5 +1,4 @@
 // The new row of a job: an earlier job that is prime in the new rows and fits with its tail, or the job alone.
-use answering::Pair;
 use answering::fits;
 use facts::first_rule;
 use facts::job_at;
@@ -9,6 +8,7 @@ use facts::norm_of;
 use fingerprints::plan_print;
 use rows::lesser;
 use rows::row_len;
+use rule_filter::Pair;
 use rules::rule_after;
 use tails::Cut;
 use tails::reach;

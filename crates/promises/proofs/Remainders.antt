@@ -16,8 +16,8 @@ use Rattle.rules.specs.Places.{rule-at, table-of}
 use Rattle.refusal.specs.Refusals.{Closed}
 use Rattle.refusal.proofs.TableRefusals.{finite}
 use Rattle.facts.specs.Facts.{table-by}
-use Rattle.answering.specs.Agreeing.{MayAgree}
-use Rattle.answering.proofs.RemainderNorms.{row-looks, row-norm, row-over, remainder-norm, remainder-over, remainder-sum}
+use Rattle.rule_filter.specs.RuleFilter.{MayAgree}
+use Rattle.remainders.proofs.RemainderNorms.{row-looks, row-norm, row-over, remainder-norm, remainder-over, remainder-sum}
 use Rattle.promises.specs.Remainders as promised
 
 pub rows-normed : promised.Rows-normed

@@ -1,6 +1,6 @@
 -- What is promised of the norms that the rounds look up: statements, each a field of EveryPromise and proved by a term of its name in small
--- letters. They are over what the contracts of the functions that look ask and give (`refining::refine`, and in `crates/answering`
--- `remainder_norm` and `may_agree`). A remainder is what a rule leaves, with the jobs that wait behind it. Assumes nothing.
+-- letters. They are over what the contracts of the functions that look ask and give (`refining::refine`, `remainders::remainder_norm`
+-- and `rule_filter::may_agree`). A remainder is what a rule leaves, with the jobs that wait behind it. Assumes nothing.
 use mathlib.Core.Path.{_≡_}
 use mathlib.Core.Bool.{Bool, true, false}
 use mathlib.Core.List.{List, [], _∷_, _++_}
@@ -12,8 +12,8 @@ use Rattle.bpa.specs.Bisimilar.{Any-bisimulation}
 use Rattle.rules.specs.Places.{rule-at, rule-count, table-of}
 use Rattle.refusal.specs.Refusals.{Closed}
 use Rattle.facts.specs.Facts.{table-by, Tables}
-use Rattle.answering.specs.Remainders.{LooksUp, LookedUp}
-use Rattle.answering.specs.Agreeing.{MayAgree}
+use Rattle.remainders.specs.Remainders.{LooksUp, LookedUp}
+use Rattle.rule_filter.specs.RuleFilter.{MayAgree}
 
 -- the numbers that the rounds are given: each is the fewest moves from the row of its rule to the empty plan
 unfoldable pub Rows-normed : Type 0

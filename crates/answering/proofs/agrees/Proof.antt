@@ -13,9 +13,10 @@ use Rattle.bpa.specs.Method.{Rows}
 use Rattle.rules.specs.Places.{rule-count}
 use Rattle.rows.specs.Region.{row, old-half, new-half}
 use Rattle.rows.specs.Answers.{Decides}
-use Rattle.answering.specs.Agreeing.{Left-equal, rows-for, rest-for, lead}
-use Rattle.answering.proofs.RemainderNorms.{nothing-waits, equal-norms}
-use Rattle.answering.proofs.RowsAsked.{pair-printing, pair-halves}
+use Rattle.equal_remainders.specs.EqualRemainders.{Left-equal, rows-for, rest-for}
+use Rattle.answering.specs.Agreeing.{lead}
+use Rattle.remainders.proofs.RemainderNorms.{nothing-waits, equal-norms}
+use Rattle.answering.proofs.TestedPairs.{pair-printing, pair-halves}
 use Rattle.answering.proofs.LedRules.{led-below, may-not, may-if-equal}
 use Rattle.answering.proofs.agrees.Statement.{statement}
 use Rattle.answering.proofs.agrees.Tie as tie

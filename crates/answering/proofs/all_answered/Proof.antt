@@ -13,10 +13,11 @@ use Rattle.bpa.specs.Method.{Rows}
 use Rattle.rules.specs.Places.{rule-count}
 use Rattle.prepare.proofs.Chains.{chain-rises}
 use Rattle.rows.specs.Region.{row, old-half, new-half}
-use Rattle.answering.specs.Agreeing.{rows-for, rest-for, Found, MineRule, lead, EqualOld, Answered, Known}
-use Rattle.answering.specs.declared.Pair.{Pair}
+use Rattle.equal_remainders.specs.EqualRemainders.{rows-for, rest-for}
+use Rattle.answering.specs.Agreeing.{Found, MineRule, lead, EqualOld, Answered, Known}
+use Rattle.rule_filter.specs.declared.Pair.{Pair}
 use Rattle.prepare.proofs.PassedRules.{Passed, passed-start, inside, passed-next}
-use Rattle.answering.proofs.RemainderNorms.{alike}
+use Rattle.remainders.proofs.RemainderNorms.{alike}
 use Rattle.answering.proofs.EqualRules.{answered-alike}
 use Rattle.answering.proofs.KnownRules.{found-answers, known-more, none-answered, every-answered}
 use Rattle.answering.proofs.Hints.{Hinted, Paired, hinted-start, pairing-hinted, hinted-next}

@@ -11,9 +11,9 @@ use borrow.Author.Needs.{needs}
 use Rattle.bpa.specs.Method.{Rows}
 use Rattle.rules.specs.Places.{rule-count}
 use Rattle.rows.specs.Region.{row, old-half, new-half}
-use Rattle.answering.specs.Agreeing.{rows-for, rest-for}
+use Rattle.equal_remainders.specs.EqualRemainders.{rows-for, rest-for}
 use Rattle.answering.proofs.RuleSearch.{Searching, search-start, search-next, search-less, Apart, apart, found-here, found-none}
-use Rattle.answering.proofs.RemainderNorms.{alike}
+use Rattle.remainders.proofs.RemainderNorms.{alike}
 use Rattle.answering.proofs.EqualRules.{apart-alike}
 use Rattle.answering.proofs.Hints.{Paired}
 use Rattle.answering.proofs.answer_to.Statement.{statement}

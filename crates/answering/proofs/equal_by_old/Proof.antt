@@ -8,7 +8,7 @@ use borrow.Author.Needs.{needs}
 use Rattle.bpa.specs.Method.{expand}
 use Rattle.rows.specs.Region.{row}
 use Rattle.fingerprints.specs.Fingerprints.{join}
-use Rattle.answering.proofs.Agreement.{denied, jobs-comparable, jobs-tell}
+use Rattle.answering.proofs.EqualJobs.{denied, jobs-comparable, jobs-tell}
 use Rattle.answering.proofs.equal_by_old.Statement.{statement}
 use Rattle.answering.proofs.equal_by_old.Tie as tie
 

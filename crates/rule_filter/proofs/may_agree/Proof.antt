@@ -8,11 +8,11 @@ use lib.ListN.{getD}
 use borrow.Author.Needs.{needs}
 use borrow.Author.Tests.{eqb-true, eqb-false, not-true, not-false}
 use Rattle.bpa.proofs.Basics.Cases.{never-both}
-use Rattle.answering.specs.Remainders.{LooksUp}
-use Rattle.answering.proofs.RemainderNorms.{nothing-waits}
-use Rattle.answering.proofs.Agreement.{moves-differ, norms-differ, prints-differ, steps-equal}
-use Rattle.answering.proofs.may_agree.Statement.{statement}
-use Rattle.answering.proofs.may_agree.Tie as tie
+use Rattle.remainders.specs.Remainders.{LooksUp}
+use Rattle.remainders.proofs.RemainderNorms.{nothing-waits}
+use Rattle.rule_filter.proofs.MayAgreeing.{moves-differ, norms-differ, prints-differ, steps-equal}
+use Rattle.rule_filter.proofs.may_agree.Statement.{statement}
+use Rattle.rule_filter.proofs.may_agree.Tie as tie
 
 -- numbers with equal remainders and equal quotients are equal
 by-bytes : (x y : ℕ) → x % 256 ≡ y % 256 → x / 256 ≡ y / 256 → x ≡ y

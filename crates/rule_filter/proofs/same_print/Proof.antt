@@ -9,9 +9,9 @@ use borrow.Author.Tests.{eq-eqb}
 use Rattle.rules.specs.Places.{rule-at, rule-count}
 use Rattle.fingerprints.specs.Fingerprints.{RulePrint}
 use Rattle.fingerprints.proofs.Digits.{modulus-is}
-use Rattle.answering.proofs.Agreement.{numbers-same}
-use Rattle.answering.proofs.same_print.Statement.{statement}
-use Rattle.answering.proofs.same_print.Tie as tie
+use Rattle.rule_filter.proofs.MayAgreeing.{numbers-same}
+use Rattle.rule_filter.proofs.same_print.Statement.{statement}
+use Rattle.rule_filter.proofs.same_print.Tie as tie
 
 -- the call: the two rules
 module _ (c : tie.Start) where

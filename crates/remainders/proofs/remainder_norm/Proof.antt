@@ -3,9 +3,9 @@ use Prim.Native.Nat.{_+_, _<_}
 use native.Mathlib.Omega.{arith}
 use lib.ListN.{getD}
 use borrow.Author.Needs.{needs}
-use Rattle.answering.proofs.RemainderNorms.{row-small}
-use Rattle.answering.proofs.remainder_norm.Statement.{statement}
-use Rattle.answering.proofs.remainder_norm.Tie as tie
+use Rattle.remainders.proofs.RemainderNorms.{row-small}
+use Rattle.remainders.proofs.remainder_norm.Statement.{statement}
+use Rattle.remainders.proofs.remainder_norm.Tie as tie
 
 small : (c : tie.Start) → getD (c .args .sums .now) (c .args .r) 0 + c .args .behind < 65536
 small c = row-small (c .pre .1 .1 .1 .0) (c .args .r) (c .pre .1 .1 .1 .1)

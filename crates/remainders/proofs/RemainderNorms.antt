@@ -14,7 +14,7 @@ use Rattle.rules.specs.Places.{rule-at, rule-count, table-of}
 use Rattle.rules.specs.Lists.{GoodList}
 use Rattle.rules.proofs.ListLaws.{good-rule}
 use Rattle.prepare.specs.Prepared.{RowNorms}
-use Rattle.answering.specs.Remainders.{LooksUp, EqualNorms}
+use Rattle.remainders.specs.Remainders.{LooksUp, EqualNorms}
 
 -- a look at a rule's row alone
 pub row-looks : {jobs : ℕ} {rs norms sums : List ℕ} → GoodList jobs rs → Good (table-of jobs rs) norms → RowNorms rs norms sums →

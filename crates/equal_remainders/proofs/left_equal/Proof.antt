@@ -13,11 +13,11 @@ use Rattle.rules.proofs.ListLaws.{good-has-place}
 use Rattle.rows.specs.Region.{row, Within, Comparable, old-half, new-half}
 use Rattle.rows.specs.Answers.{Decides}
 use Rattle.rows.proofs.LentRows.{old-lent, new-lent}
-use Rattle.answering.specs.Agreeing.{Halves, Left-equal, rows-for, rest-for}
-use Rattle.answering.proofs.RowsAsked.{rows-new, rows-old, rest-new, rest-old}
-use Rattle.answering.proofs.Agreement.{afters-comparable, afters-tell}
-use Rattle.answering.proofs.left_equal.Statement.{statement}
-use Rattle.answering.proofs.left_equal.Tie as tie
+use Rattle.equal_remainders.specs.EqualRemainders.{Halves, Left-equal, rows-for, rest-for}
+use Rattle.equal_remainders.proofs.RowsAsked.{rows-new, rows-old, rest-new, rest-old}
+use Rattle.equal_remainders.proofs.ComparedRemainders.{afters-comparable, afters-tell}
+use Rattle.equal_remainders.proofs.left_equal.Statement.{statement}
+use Rattle.equal_remainders.proofs.left_equal.Tie as tie
 
 -- the call: the two rules
 module _ (c : tie.Start) where

@@ -1,0 +1,3 @@
+-- Laws of what rules leave, compared by rows.
+pub mod RowsAsked
+pub mod ComparedRemainders

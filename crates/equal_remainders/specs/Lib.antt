@@ -1,0 +1,2 @@
+-- What rules leave, compared by rows.
+pub mod EqualRemainders

@@ -1,0 +1,2 @@
+-- Laws of what rules leave, and of its norm.
+pub mod RemainderNorms

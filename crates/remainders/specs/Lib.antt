@@ -1,0 +1,2 @@
+-- What rules leave, and the norms that are looked up for it.
+pub mod Remainders

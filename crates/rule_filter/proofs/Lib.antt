@@ -1,0 +1,2 @@
+-- Laws of rules that may agree.
+pub mod MayAgreeing

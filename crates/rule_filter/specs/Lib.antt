@@ -1,0 +1,2 @@
+-- Rules that may agree.
+pub mod RuleFilter
