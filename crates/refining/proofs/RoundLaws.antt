@@ -17,9 +17,11 @@ use Rattle.decompositions.proofs.Complete.{refinement-covers}
 use Rattle.decompositions.proofs.FinalRows.{final-rows}
 use Rattle.settled.specs.Settled.{History}
 use Rattle.fingerprints.specs.Fingerprints.{KnownPrints}
-use Rattle.refining.specs.Rounds.{FirstIn, CanKeep, Kept, RowsReady, NewRows, PrimesFound, Rounded, FinalIn}
-use Rattle.refining.proofs.Halves.{old-size}
-use Rattle.refining.proofs.KnownRows.{all-moved, known-same}
+use Rattle.halves.specs.HalvesWritten.{FirstIn, CanKeep, Kept}
+use Rattle.new_rows.specs.NewRows.{RowsReady, NewRows}
+use Rattle.refining.specs.Rounds.{PrimesFound, Rounded, FinalIn}
+use Rattle.halves.proofs.Halves.{old-size}
+use Rattle.new_rows.proofs.KnownRows.{all-moved, known-same}
 use Rattle.refining.proofs.AgreeingRows.{first-agree, decomposition-agree, refines-agree}
 
 -- a round: new primes are looked for beside the old rows as they were

@@ -9,7 +9,7 @@ use Rattle.rows.specs.Region.{row, old-half, new-half}
 use Rattle.facts.specs.Facts.{jobs-in}
 use Rattle.decompositions.specs.Decompositions.{Alone}
 use Rattle.rows.proofs.LentRows.{old-lent, new-lent}
-use Rattle.refining.proofs.Halves.{old-size, new-size}
+use Rattle.halves.proofs.Halves.{old-size, new-size}
 use Rattle.refining.proofs.Primes.{old-alone, new-alone, decides-not, prime-found, prime-none}
 use Rattle.refining.proofs.new_prime.Statement.{statement}
 use Rattle.refining.proofs.new_prime.Tie as tie

@@ -8,9 +8,9 @@ use Rattle.rows.proofs.LentRows.{new-lent}
 use Rattle.fingerprints.specs.Fingerprints.{KnownPrints}
 use Rattle.facts.specs.Facts.{jobs-in, table-by}
 use Rattle.decompositions.proofs.NoNewPrime.{composite}
-use Rattle.refining.proofs.Halves.{new-size, new-given, given-size}
+use Rattle.halves.proofs.Halves.{new-size, new-given, given-size}
 use Rattle.refining.proofs.RoundLaws.{BetweenRounds, first-keep, rounds-begin, rounds-keep, rounds-go-on, rounds-known, rounds-fall, rounds-end}
-use Rattle.refining.proofs.KnownRows.{known-none}
+use Rattle.new_rows.proofs.KnownRows.{known-none}
 use Rattle.refining.proofs.refine.Statement.{statement}
 use Rattle.refining.proofs.refine.Tie as tie
 

@@ -1,9 +1,9 @@
--- `refining::keep` meets its contract. Assumes nothing.
+-- `halves::keep` meets its contract. Assumes nothing.
 use Prim.Native.Nat.{_≤_, _-_}
 use native.Mathlib.Omega.{arith}
-use Rattle.refining.proofs.KeptRows.{Keeping, keeping-first, keeping-same, keeping-row, keeping-last}
-use Rattle.refining.proofs.keep.Statement.{statement}
-use Rattle.refining.proofs.keep.Tie as tie
+use Rattle.halves.proofs.KeptRows.{Keeping, keeping-first, keeping-same, keeping-row, keeping-last}
+use Rattle.halves.proofs.keep.Statement.{statement}
+use Rattle.halves.proofs.keep.Tie as tie
 
 abbrev Inv-loop : tie.InvT-loop
 Inv-loop jobs new moved area₀ j₀ area j = (j ≤ jobs) × Keeping jobs new area₀ area j

@@ -16,8 +16,8 @@ use Rattle.rows.specs.Region.{row}
 use Rattle.rows.proofs.OneRow.{row-new, row-old}
 use Rattle.facts.specs.Facts.{norms-in, order-in, jobs-in, table-by, Tables}
 use Rattle.facts.proofs.Lookups.{jobs-few, place-job, place-rises, place-of-job}
-use Rattle.refining.specs.Rounds.{FirstIn}
-use Rattle.refining.proofs.Lengths.{length-set-each}
+use Rattle.halves.specs.HalvesWritten.{FirstIn}
+use Rattle.halves.proofs.Lengths.{length-set-each}
 
 -- the rows of the jobs before j are copies of the first job
 pub record Filling (ns : List ℕ) (first : ℕ) (lens region : List ℕ) (j : ℕ) : Type 0 where

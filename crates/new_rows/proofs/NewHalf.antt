@@ -22,11 +22,11 @@ use Rattle.fingerprints.specs.Fingerprints.{Printed, KnownPrints, AllPrinted}
 use Rattle.settled.specs.Settled.{History, Settling, Settles}
 use Rattle.decomposing.specs.Candidates.{Earlier-rows, Decomposable, RowWritten}
 use Rattle.area.proofs.Parts.{middle-part}
-use Rattle.refining.specs.Rounds.{RowsReady, NewRows}
-use Rattle.refining.proofs.Halves.{new-put, old-put}
-use Rattle.refining.proofs.Lengths.{length-set-each}
-use Rattle.refining.proofs.Flags.{low-other, low-before}
-use Rattle.refining.proofs.InOrder.{Refined-before, earlier-places, decomposed-before, refined-more, refined-all, decomposed-all}
+use Rattle.new_rows.specs.NewRows.{RowsReady, NewRows}
+use Rattle.halves.proofs.Halves.{new-put, old-put}
+use Rattle.halves.proofs.Lengths.{length-set-each}
+use Rattle.new_rows.proofs.Flags.{low-other, low-before}
+use Rattle.new_rows.proofs.InOrder.{Refined-before, earlier-places, decomposed-before, refined-more, refined-all, decomposed-all}
 
 -- the new rows of the jobs before a place of the order are right, and the old rows are as they were. A job that has not moved has its old
 -- row, and so has each job from that place on. One that is not stale has not moved in this round or the last one, of which `flags` tells.

@@ -10,8 +10,8 @@ use lib.Seq.{length-take-le, set-getD}
 use Rattle.area.specs.Areas.{put}
 use Rattle.rows.specs.Region.{row, old-half, new-half}
 use Rattle.rows.proofs.OneRow.{row-new, row-old}
-use Rattle.refining.specs.Rounds.{RowKept, CanKeep, Kept}
-use Rattle.refining.proofs.Halves.{old-size, new-size}
+use Rattle.halves.specs.HalvesWritten.{RowKept, CanKeep, Kept}
+use Rattle.halves.proofs.Halves.{old-size, new-size}
 
 -- ONE ROW WRITTEN ANEW with its length
 module _ (lens region v : List ℕ) (y : ℕ) (fits : 512 * y + length v ≤ length region) (long : length v ≡ getD lens y 0) where

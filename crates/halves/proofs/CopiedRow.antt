@@ -9,8 +9,8 @@ use lib.ListN.{length, getD, take, drop, set, length-set, length-drop, take-appe
 use lib.Seq.{length-take-le, take-suc, take-suc-set, drop-set-lt, getD-drop, drop-drop}
 use Rattle.area.specs.Areas.{put}
 use Rattle.rows.specs.Region.{old-half, new-half}
-use Rattle.refining.specs.Rounds.{RowKept}
-use Rattle.refining.proofs.Halves.{old-put-first, new-put-first}
+use Rattle.halves.specs.HalvesWritten.{RowKept}
+use Rattle.halves.proofs.Halves.{old-put-first, new-put-first}
 
 -- the first i places of the row that stands behind `half` and s stand at s
 pub record Copying (half s : ℕ) (before after : List ℕ) (i : ℕ) : Type 0 where

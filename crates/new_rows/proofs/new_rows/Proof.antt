@@ -1,4 +1,4 @@
--- `refining::new_rows` meets its contract. Assumes nothing.
+-- `new_rows::new_rows` meets its contract. Assumes nothing.
 use mathlib.Core.Path.{_≡_, refl, sym, subst, ap, _∙_}
 use mathlib.Core.List.{List}
 use Prim.Native.Nat.{ℕ, _+_, _*_, _≤_, _<_, _-_}
@@ -11,11 +11,11 @@ use Rattle.rules.specs.Lists.{GoodList}
 use Rattle.rows.specs.Region.{row, old-half, new-half}
 use Rattle.facts.specs.Facts.{order-in, jobs-in}
 use Rattle.area.proofs.Parts.{middle-part}
-use Rattle.refining.proofs.NewHalf.{Growing, lent-within, lent-known, lent-printed, job-small, few}
-use Rattle.refining.proofs.KnownRows.{known-all, known-same}
-use Rattle.refining.proofs.NewHalf.{growing-first, growing-settling, growing-settled, growing-asks, growing-same, growing-more, growing-last}
-use Rattle.refining.proofs.new_rows.Statement.{statement}
-use Rattle.refining.proofs.new_rows.Tie as tie
+use Rattle.new_rows.proofs.NewHalf.{Growing, lent-within, lent-known, lent-printed, job-small, few}
+use Rattle.new_rows.proofs.KnownRows.{known-all, known-same}
+use Rattle.new_rows.proofs.NewHalf.{growing-first, growing-settling, growing-settled, growing-asks, growing-same, growing-more, growing-last}
+use Rattle.new_rows.proofs.new_rows.Statement.{statement}
+use Rattle.new_rows.proofs.new_rows.Tie as tie
 
 abbrev Inv-loop : tie.InvT-loop
 Inv-loop rules facts sums next many old new₀ moved₀ area₀ prints jobs stale₀ row₀ place₀ new moved area stale row place =

@@ -1,4 +1,4 @@
--- `refining::first_rows` meets its contract. Assumes nothing.
+-- `halves::first_rows` meets its contract. Assumes nothing.
 use mathlib.Core.Path.{_≡_, sym, subst, _∙_}
 use mathlib.Core.List.{List}
 use Prim.Native.Nat.{ℕ, _+_, _*_, _≤_, _<_, _-_}
@@ -6,9 +6,9 @@ use native.Mathlib.Omega.{arith}
 use borrow.Author.Needs.{needs}
 use lib.ListN.{getD, set}
 use Rattle.facts.specs.Facts.{norms-in, jobs-in}
-use Rattle.refining.proofs.FirstRegion.{Filling, part-filled, filling-first, filling-more, first-job, norm-some, filling-last}
-use Rattle.refining.proofs.first_rows.Statement.{statement}
-use Rattle.refining.proofs.first_rows.Tie as tie
+use Rattle.halves.proofs.FirstRegion.{Filling, part-filled, filling-first, filling-more, first-job, norm-some, filling-last}
+use Rattle.halves.proofs.first_rows.Statement.{statement}
+use Rattle.halves.proofs.first_rows.Tie as tie
 
 abbrev Inv-loop : tie.InvT-loop
 Inv-loop rules facts sums next rows₀ jobs first lens₀ j₀ rows lens j = (j ≤ jobs) × Filling (norms-in facts) first lens rows j

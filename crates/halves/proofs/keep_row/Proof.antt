@@ -1,11 +1,11 @@
--- `refining::keep_row` meets its contract. Assumes nothing.
+-- `halves::keep_row` meets its contract. Assumes nothing.
 use mathlib.Core.Path.{_≡_}
 use Prim.Native.Nat.{_*_, _≤_, _<_, _+_, _-_}
 use native.Mathlib.Omega.{arith}
 use lib.ListN.{length}
-use Rattle.refining.proofs.CopiedRow.{Copying, copying-first, copying-more, row-copied}
-use Rattle.refining.proofs.keep_row.Statement.{statement}
-use Rattle.refining.proofs.keep_row.Tie as tie
+use Rattle.halves.proofs.CopiedRow.{Copying, copying-first, copying-more, row-copied}
+use Rattle.halves.proofs.keep_row.Statement.{statement}
+use Rattle.halves.proofs.keep_row.Tie as tie
 
 abbrev Inv-loop : tie.InvT-loop
 Inv-loop area₀ job len start i₀ area i = (i ≤ len) × Copying 12288 (512 * job) area₀ area i

@@ -1,4 +1,4 @@
--- `refining::fill` meets its contract. The loop's invariant: the job up to i, and what was there from i on. Assumes nothing.
+-- `halves::fill` meets its contract. The loop's invariant: the job up to i, and what was there from i on. Assumes nothing.
 use mathlib.Core.Path.{_≡_, refl, ap, _∙_}
 use mathlib.Core.List.{_++_, append-nil}
 use Prim.Native.Nat.{_≤_, _<_, _-_}
@@ -6,8 +6,8 @@ use native.Mathlib.Omega.{arith}
 use lib.ListN.{length, drop, replicate, length-set}
 use lib.Seq.{drop-length}
 use borrow.Author.Fill.{fill-more}
-use Rattle.refining.proofs.fill.Statement.{statement}
-use Rattle.refining.proofs.fill.Tie as tie
+use Rattle.halves.proofs.fill.Statement.{statement}
+use Rattle.halves.proofs.fill.Tie as tie
 
 abbrev Inv-loop : tie.InvT-loop
 Inv-loop part₀ job i₀ part i = (i ≤ length part₀) × (length part ≡ length part₀) × (part ≡ replicate i job ++ drop i part₀)

@@ -1,0 +1,2 @@
+-- Rows in the two halves of an area.
+pub mod HalvesWritten

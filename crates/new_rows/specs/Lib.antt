@@ -1,0 +1,2 @@
+-- The new rows of all jobs.
+pub mod NewRows
