@@ -1,7 +1,4 @@
 // The checks of an image and of a list of 8-byte rules: refusals 2 to 5.
-mod head;
-mod places;
-
 ghost use mathlib.Core.Path.{_≡_};
 ghost use mathlib.Core.Bool.{true};
 ghost use Prim.Native.Nat.{_*_, _≤_, _<_};
@@ -35,9 +32,9 @@ fn block_passes(check: u32, image: &[u8], count: usize, k: usize) -> bool
     }
     let jobs = area::wide(image[0]);
     if check <= 4 {
-        return head::head_good(jobs, count, k, &image[a..e]);
+        return head_check::head_good(jobs, count, k, &image[a..e]);
     }
-    places::block_good(jobs, &image[a..e])
+    place_check::block_good(jobs, &image[a..e])
 }
 
 // One check of every block.
@@ -103,7 +100,7 @@ pub fn list_refusal(jobs: u32, rules: &[u8]) -> u8
     if 24 < jobs {
         return 4;
     }
-    if places::places_good(jobs as usize, count, rules) {
+    if place_check::places_good(jobs as usize, count, rules) {
         return 0;
     }
     5

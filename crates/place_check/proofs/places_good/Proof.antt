@@ -1,4 +1,4 @@
--- `image_check::places::places_good` meets its contract. The loop's invariant: the places left decide. Assumes nothing.
+-- `place_check::places_good` meets its contract. The loop's invariant: the places left decide. Assumes nothing.
 use mathlib.Core.Path.{_≡_, refl, sym, ap, _∙_}
 use mathlib.Core.Bool.{true, _&&_}
 use mathlib.Core.List.{List}
@@ -9,8 +9,8 @@ use native.Mathlib.Nat.{sub-zero}
 use lib.ListN.{length-take, length-drop}
 use lib.Seq.{drop-drop}
 use native.Mathlib.Omega.{arith}
-use Rattle.image_check.proofs.places.places_good.Statement.{statement}
-use Rattle.image_check.proofs.places.places_good.Tie as tie
+use Rattle.place_check.proofs.places_good.Statement.{statement}
+use Rattle.place_check.proofs.places_good.Tie as tie
 
 part-length : (xs : List ℕ) (a : ℕ) → a + 8 ≤ length xs → length (take (a + 8 - a) (drop a xs)) ≡ 8
 part-length xs a h = simp (length-take, length-drop) (omega arith)

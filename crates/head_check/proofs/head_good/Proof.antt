@@ -1,4 +1,4 @@
--- `image_check::head::head_good` meets its contract. Assumes nothing.
+-- `head_check::head_good` meets its contract. Assumes nothing.
 use mathlib.Core.Path.{_≡_, sym, ap, _∙_}
 use mathlib.Core.Bool.{false, _&&_}
 use mathlib.Core.List.{List}
@@ -11,8 +11,8 @@ use Rattle.area.specs.Numbers.{number-at}
 use Rattle.image.specs.Image.{rules-in-block, rules-fit, head-of}
 use borrow.Author.Needs.{needs}
 use native.Mathlib.Omega.{arith}
-use Rattle.image_check.proofs.head.head_good.Statement.{statement}
-use Rattle.image_check.proofs.head.head_good.Tie as tie
+use Rattle.head_check.proofs.head_good.Statement.{statement}
+use Rattle.head_check.proofs.head_good.Tie as tie
 
 module _ (n b k : ℕ) (x : List ℕ) where
   few-jobs : getD x 0 0 < 1 → head-of n b k x ≡ false

@@ -1,8 +1,8 @@
--- `image_check::head::rules_fit` meets its contract. Assumes nothing.
+-- `head_check::rules_fit` meets its contract. Assumes nothing.
 use borrow.Author.Tests.{le-leb, lt-leb}
 use Rattle.image.specs.Image.{rules-fit}
-use Rattle.image_check.proofs.head.rules_fit.Statement.{statement}
-use Rattle.image_check.proofs.head.rules_fit.Tie as tie
+use Rattle.head_check.proofs.rules_fit.Statement.{statement}
+use Rattle.head_check.proofs.rules_fit.Tie as tie
 
 returns : tie.Need-returns
 unfolding rules-fit

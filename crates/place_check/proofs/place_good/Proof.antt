@@ -1,4 +1,4 @@
--- `image_check::places::place_good` meets its contract. Assumes nothing.
+-- `place_check::place_good` meets its contract. Assumes nothing.
 use mathlib.Core.Path.{_≡_, sym, ap, _∙_}
 use mathlib.Core.Bool.{false, _&&_}
 use mathlib.Core.List.{List}
@@ -10,8 +10,8 @@ use Rattle.rules.specs.Places.{all-zero, place-good}
 use Rattle.image.proofs.PlaceRows.{drop-take}
 use borrow.Author.Needs.{needs}
 use native.Mathlib.Omega.{arith}
-use Rattle.image_check.proofs.places.place_good.Statement.{statement}
-use Rattle.image_check.proofs.places.place_good.Tie as tie
+use Rattle.place_check.proofs.place_good.Statement.{statement}
+use Rattle.place_check.proofs.place_good.Tie as tie
 
 job-bad : (n : ℕ) (xs : List ℕ) → n ≤ getD xs 0 0 → place-good n xs ≡ false
 unfolding place-good

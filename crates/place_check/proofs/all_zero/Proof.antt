@@ -1,4 +1,4 @@
--- `image_check::places::all_zero` meets its contract. The loop's invariant: what is left decides. Assumes nothing.
+-- `place_check::all_zero` meets its contract. The loop's invariant: what is left decides. Assumes nothing.
 use mathlib.Core.Path.{_≡_, refl, sym, ap, _∙_}
 use mathlib.Core.Bool.{true, false}
 use mathlib.Core.List.{List}
@@ -9,8 +9,8 @@ use lib.Seq.{drop-cons, drop-length}
 use borrow.Author.Tests.{eq-eqb, ne-eqb}
 use Rattle.rules.specs.Places.{all-zero}
 use native.Mathlib.Omega.{arith}
-use Rattle.image_check.proofs.places.all_zero.Statement.{statement}
-use Rattle.image_check.proofs.places.all_zero.Tie as tie
+use Rattle.place_check.proofs.all_zero.Statement.{statement}
+use Rattle.place_check.proofs.all_zero.Tie as tie
 
 passed : (bytes : List ℕ) (i : ℕ) → i < length bytes → getD bytes i 0 ≡ 0 → all-zero (drop i bytes) ≡ all-zero (drop (i + 1) bytes)
 unfolding all-zero

@@ -1,4 +1,4 @@
--- `image_check::places::block_good` meets its contract. Assumes nothing.
+-- `place_check::block_good` meets its contract. Assumes nothing.
 use mathlib.Core.Path.{_≡_, sym, _∙_}
 use mathlib.Core.Bool.{_&&_}
 use mathlib.Core.List.{List}
@@ -9,8 +9,8 @@ use Rattle.rules.specs.Places.{all-zero, places-good}
 use Rattle.image.specs.Image.{rules-in-block, block, places-of-block}
 use borrow.Author.Needs.{needs}
 use native.Mathlib.Omega.{arith}
-use Rattle.image_check.proofs.places.block_good.Statement.{statement}
-use Rattle.image_check.proofs.places.block_good.Tie as tie
+use Rattle.place_check.proofs.block_good.Statement.{statement}
+use Rattle.place_check.proofs.block_good.Tie as tie
 
 -- the two parts of the block that the code looks at
 parts : (n : ℕ) (x : List ℕ) (r : ℕ) → length x ≡ 512 → r ≡ getD x 1 0
