@@ -22,8 +22,8 @@ use Rattle.facts.proofs.Lookups.{row-norm}
 use Rattle.rule_filter.specs.RuleFilter.{Same-print}
 use Rattle.equal_remainders.specs.EqualRemainders.{rows-for, rest-for}
 use Rattle.answering.specs.Agreeing.{Agree}
-use Rattle.decomposing.specs.Candidates.{Decomposable, Earlier-rows}
-use Rattle.decomposing.proofs.JobsOfTable.{job-below, over-by, over-below, lesser-plan}
+use Rattle.decomposing.specs.Decomposing.{Decomposable, Earlier-rows}
+use Rattle.candidates.proofs.JobsOfTable.{job-below, over-by, over-below, lesser-plan}
 use Rattle.decomposing.proofs.RulePlaces.{by-rows}
 
 pub print-small : (n : ℕ) (d : Rows) (prints : List ℕ) → Printed n d prints → (j : ℕ) → j < n → getD prints j 0 < modulus

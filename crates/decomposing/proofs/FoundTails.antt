@@ -17,8 +17,8 @@ use Rattle.decompositions.specs.Decompositions.{Tail}
 use Rattle.tails.specs.Cuts.{Reached}
 use Rattle.tails.proofs.Tails.{reached-tail, missed-tail}
 use Rattle.facts.specs.Facts.{norms-in, jobs-in, table-by, Tables}
-use Rattle.decomposing.specs.Candidates.{Lowered}
-use Rattle.decomposing.proofs.JobsOfTable.{job-by, over-below}
+use Rattle.candidates.specs.Candidates.{Lowered}
+use Rattle.candidates.proofs.JobsOfTable.{job-by, over-below}
 
 -- the one tail of a job
 pub record FoundTail (rs facts : List ℕ) (e : Rows) (y x : ℕ) (tail : List ℕ) : Type 0 where

@@ -18,8 +18,8 @@ use Rattle.tails.specs.Cuts.{CutBehind, Reached}
 use Rattle.tails.proofs.Tails.{cut-last, reached-later}
 use Rattle.facts.specs.Facts.{norms-in, order-in, jobs-in, table-by, Tables}
 use Rattle.facts.proofs.Lookups.{place-rises, place-of-earlier}
-use Rattle.decomposing.specs.Candidates.{RowWritten}
-use Rattle.decomposing.proofs.JobsOfTable.{job-below}
+use Rattle.decomposing.specs.Decomposing.{RowWritten}
+use Rattle.candidates.proofs.JobsOfTable.{job-below}
 
 -- the norm that the cut for the job at a place is to have before it
 abbrev pub goal-at : (facts : List ℕ) → (place : ℕ) → ℕ

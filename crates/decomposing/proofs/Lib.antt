@@ -1,9 +1,5 @@
 -- Laws of the new row of a job: the lowered row, rules by their places, fingerprints, tails, and the jobs tried so far.
-pub mod JobsOfTable
-pub mod LikelyJobs
-pub mod LoweredRows
 pub mod RulePlaces
-pub mod RowEnds
 pub mod EqualPrints
 pub mod FoundTails
 pub mod JobsTried

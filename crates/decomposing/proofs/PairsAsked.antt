@@ -21,10 +21,10 @@ use Rattle.facts.specs.Facts.{norms-in, jobs-in, table-by}
 use Rattle.facts.proofs.Lookups.{first-place}
 use Rattle.remainders.specs.Remainders.{LooksUp}
 use Rattle.answering.specs.Agreeing.{Pairing, OldPair, RulesMatch}
-use Rattle.decomposing.specs.Candidates.{Likely, CanPair, PairOf}
-use Rattle.decomposing.proofs.JobsOfTable.{job-by, job-below, over-below}
+use Rattle.candidates.specs.Candidates.{Likely, CanPair, PairOf}
+use Rattle.candidates.proofs.JobsOfTable.{job-by, job-below, over-below}
 use Rattle.decomposing.proofs.RulePlaces.{match-fits, fits-match}
-use Rattle.decomposing.proofs.RowEnds.{no-longer, behind-is}
+use Rattle.candidates.proofs.RowEnds.{no-longer, behind-is}
 use Rattle.decomposing.proofs.EqualPrints.{print-small, rules-same-print, jobs-same-print}
 use Rattle.decomposing.proofs.FoundTails.{FoundTail}
 use Rattle.decomposing.proofs.Turns.{Turn, few, y-job, x-job, y-small, x-small, x-before, x-least, y-earlier}

@@ -12,9 +12,9 @@ use Rattle.decompositions.specs.Decompositions.{Decomposes}
 use Rattle.rows.specs.Region.{row, old-half, new-half}
 use Rattle.tails.specs.Cuts.{CutBehind, Reached}
 use Rattle.facts.specs.Facts.{norms-in, order-in, jobs-in, table-by}
-use Rattle.decomposing.specs.Candidates.{Likely}
-use Rattle.decomposing.proofs.JobsOfTable.{over-below}
-use Rattle.decomposing.proofs.LikelyJobs.{decomposes-likely}
+use Rattle.candidates.specs.Candidates.{Likely}
+use Rattle.candidates.proofs.JobsOfTable.{over-below}
+use Rattle.candidates.proofs.LikelyJobs.{decomposes-likely}
 use Rattle.decomposing.proofs.FoundTails.{FoundTail, no-tail, tail-found}
 use Rattle.decomposing.proofs.JobsTried.{goal-at, Tried, tried-passed, tried-cut}
 use Rattle.decomposing.proofs.Turns.{Turn, few, y-job, x-job}

@@ -11,8 +11,9 @@ use Rattle.bpa.proofs.Basics.Plans.{norm-positive}
 use Rattle.rows.specs.Region.{row, old-half, new-half}
 use Rattle.facts.specs.Facts.{norms-in, order-in, jobs-in, table-by}
 use Rattle.facts.proofs.Lookups.{jobs-few, place-job, place-rises}
-use Rattle.decomposing.specs.Candidates.{CanLower, Lowered, Decomposable, Earlier-rows}
-use Rattle.decomposing.proofs.JobsOfTable.{job-by}
+use Rattle.candidates.specs.Candidates.{CanLower, Lowered}
+use Rattle.decomposing.specs.Decomposing.{Decomposable, Earlier-rows}
+use Rattle.candidates.proofs.JobsOfTable.{job-by}
 use Rattle.decomposing.proofs.JobsTried.{Tried}
 
 -- the job y whose row is worked out

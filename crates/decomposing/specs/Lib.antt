@@ -1,2 +1,2 @@
 -- The new row of a job.
-pub mod Candidates
+pub mod Decomposing

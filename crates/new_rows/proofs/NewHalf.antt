@@ -20,7 +20,7 @@ use Rattle.facts.specs.Facts.{norms-in, order-in, jobs-in, table-by}
 use Rattle.facts.proofs.Lookups.{jobs-few, place-job, place-rises}
 use Rattle.fingerprints.specs.Fingerprints.{Printed, KnownPrints, AllPrinted}
 use Rattle.settled.specs.Settled.{History, Settling, Settles}
-use Rattle.decomposing.specs.Candidates.{Earlier-rows, Decomposable, RowWritten}
+use Rattle.decomposing.specs.Decomposing.{Earlier-rows, Decomposable, RowWritten}
 use Rattle.area.proofs.Parts.{middle-part}
 use Rattle.new_rows.specs.NewRows.{RowsReady, NewRows}
 use Rattle.halves.proofs.Halves.{new-put, old-put}

@@ -13,7 +13,8 @@ use Rattle.decompositions.specs.Decompositions.{parted}
 use Rattle.rows.specs.Region.{row, old-half, new-half}
 use Rattle.tails.specs.Cuts.{Reached}
 use Rattle.facts.specs.Facts.{norms-in}
-use Rattle.decomposing.specs.Candidates.{LoweredRow, RowWritten}
+use Rattle.candidates.specs.Candidates.{LoweredRow}
+use Rattle.decomposing.specs.Decomposing.{RowWritten}
 use Rattle.decomposing.proofs.FoundTails.{FoundTail}
 use Rattle.decomposing.proofs.JobsTried.{Tried, tried-none, tried-next, tried-all}
 use Rattle.decomposing.proofs.JobsTried.{PartsWritten, job-written, parts-written, put-back, row-written}

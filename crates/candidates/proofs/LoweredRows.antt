@@ -23,8 +23,8 @@ use Rattle.rows.specs.Region.{row, Readable, new-half}
 use Rattle.rows.proofs.WrittenPlans.{within-readable}
 use Rattle.facts.specs.Facts.{norms-in, jobs-in, table-by}
 use Rattle.facts.proofs.Lookups.{jobs-few, lowering-place, lowering-row}
-use Rattle.decomposing.specs.Candidates.{CanLower, LoweredRow}
-use Rattle.decomposing.proofs.JobsOfTable.{job-by, job-below, over-below}
+use Rattle.candidates.specs.Candidates.{CanLower, LoweredRow}
+use Rattle.candidates.proofs.JobsOfTable.{job-by, job-below, over-below}
 
 module _ (rs facts new area : List ℕ) (y : ℕ) (h : CanLower rs facts new area y) where
   abbrev t : Table

@@ -1,12 +1,12 @@
--- `decomposing::pair_of` meets its contract. Assumes nothing.
+-- `candidates::pair_of` meets its contract. Assumes nothing.
 use mathlib.Core.Path.{refl, sym, ap, subst, _∙_}
 use Prim.Native.Nat.{ℕ, _+_, _*_}
 use native.Mathlib.Omega.{arith}
 use borrow.Author.Needs.{needs}
 use Rattle.area.proofs.Parts.{rest-part}
 use Rattle.fingerprints.specs.Fingerprints.{Printable, value-from, power-from}
-use Rattle.decomposing.proofs.pair_of.Statement.{statement}
-use Rattle.decomposing.proofs.pair_of.Tie as tie
+use Rattle.candidates.proofs.pair_of.Statement.{statement}
+use Rattle.candidates.proofs.pair_of.Tie as tie
 
 plan-print-requires : tie.Need-plan-print-requires
 plan-print-requires c κs =

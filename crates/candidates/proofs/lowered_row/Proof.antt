@@ -1,4 +1,4 @@
--- `decomposing::lowered_row` meets its contract. Assumes nothing.
+-- `candidates::lowered_row` meets its contract. Assumes nothing.
 use mathlib.Core.Path.{_≡_, sym, ap, subst, _∙_}
 use Prim.Native.Nat.{ℕ, _+_}
 use lib.ListN.{getD}
@@ -6,11 +6,11 @@ use borrow.Author.Needs.{needs}
 use Rattle.rules.specs.Lists.{HasPlace}
 use Rattle.rules.specs.Places.{rule-at}
 use Rattle.rows.specs.Region.{row, new-half}
-use Rattle.decomposing.specs.Candidates.{LoweredRow}
+use Rattle.candidates.specs.Candidates.{LoweredRow}
 use Rattle.rows.proofs.LentRows.{new-lent}
-use Rattle.decomposing.proofs.LoweredRows.{job-small, rule-there, lowered-readable, lowered-room, lowered-row}
-use Rattle.decomposing.proofs.lowered_row.Statement.{statement}
-use Rattle.decomposing.proofs.lowered_row.Tie as tie
+use Rattle.candidates.proofs.LoweredRows.{job-small, rule-there, lowered-readable, lowered-room, lowered-row}
+use Rattle.candidates.proofs.lowered_row.Statement.{statement}
+use Rattle.candidates.proofs.lowered_row.Tie as tie
 
 -- PLACES OF THE CODE: back from the written row to the jobs that are lent, to the rule, to the start
 abbrev start : tie.After-lowering-rule → tie.Start

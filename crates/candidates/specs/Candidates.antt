@@ -1,4 +1,4 @@
--- What working out the new row of a job asks and gives. Assumes nothing: these are definitions.
+-- Jobs that may decompose another, the numbers of a pair of them, and the lowered row. Assumes nothing: these are definitions.
 use mathlib.Core.Path.{_≡_}
 use mathlib.Core.Bool.{Bool, true}
 use mathlib.Core.List.{List}
@@ -8,10 +8,10 @@ use lib.Seq.{slice}
 use Rattle.bpa.specs.Plans.{over}
 use Rattle.bpa.specs.Norms.{sum-of}
 use Rattle.bpa.specs.Method.{Rows, expand, precedes, lowering}
-use Rattle.decompositions.specs.Decompositions.{Alone, Decomposed, Decomposition, NewRow, Refined}
-use Rattle.rows.specs.Region.{row, Within, old-half, new-half}
-use Rattle.facts.specs.Facts.{norms-in, order-in, jobs-in, table-by, Tables}
-use Rattle.fingerprints.specs.Fingerprints.{modulus, value-from, power-from, Printed, Printable, Rule-prints}
+use Rattle.decompositions.specs.Decompositions.{Alone, Decomposed}
+use Rattle.rows.specs.Region.{row, Within, new-half}
+use Rattle.facts.specs.Facts.{norms-in, jobs-in, table-by, Tables}
+use Rattle.fingerprints.specs.Fingerprints.{modulus, value-from, power-from, Printable}
 
 -- a job that may decompose another: prime in the new rows, with an old row that begins with the same job, and the same mark
 pub record Likely (facts area : List ℕ) (e : Rows) (y x : ℕ) : Type 0 where
@@ -47,12 +47,6 @@ pub record PairOf (facts prints old parts : List ℕ) (y x : ℕ) (forward : Boo
   pub hint-is : hint ≡ getD facts (48 + x) 0
   pub to-is : to ≡ 512 * y + getD old y 0
 
--- the new rows of all jobs before y are right
-abbrev pub Earlier-rows : (facts rules : List ℕ) → (d e : Rows) → (y : ℕ) → Type 0
-Earlier-rows fs rs d e y =
-    (j : ℕ) → j < jobs-in fs → precedes (norms-in fs) j y ≡ true →
-    Refined (table-by fs rs) (norms-in fs) d e j × Decomposed (table-by fs rs) (norms-in fs) e j
-
 -- what writing the lowered row of y asks: the rule is there, and its jobs have new rows that keep the norm
 pub record CanLower (rs facts new area : List ℕ) (y : ℕ) : Type 0 where
   pub sums : List ℕ
@@ -76,22 +70,3 @@ pub record LoweredRow (rs facts : List ℕ) (e : Rows) (y : ℕ) (out : List ℕ
   pub some : 1 ≤ r
   pub short : r ≤ 512
   pub low : Lowered rs facts e y (slice 1 r out)
-
--- WHAT THE NEW ROW of the job at a place asks: the old rows are a decomposition, and the new rows of all jobs before it are right
-pub record Decomposable (rs facts sums next prints old new area : List ℕ) (place : ℕ) : Type 0 where
-  pub tables : Tables rs sums next facts
-  pub size : length area ≡ 24576
-  pub old-within : Within (jobs-in facts) old (old-half area)
-  pub new-within : Within (jobs-in facts) new (new-half area)
-  pub printed : Printed (jobs-in facts) (row old (old-half area)) prints
-  pub rule-printed : Rule-prints rs prints
-  pub inside : place < jobs-in facts
-  pub decomposition : Decomposition (table-by facts rs) (norms-in facts) (row old (old-half area))
-  pub earlier : Earlier-rows facts rs (row old (old-half area)) (row new (new-half area)) (getD (order-in facts) place 0)
-
--- THE NEW ROW in a part of an area of 512 bytes
-pub record RowWritten (rs facts : List ℕ) (d e : Rows) (y : ℕ) (out : List ℕ) (from to : ℕ) : Type 0 where
-  pub size : length out ≡ 512
-  pub some : from < to
-  pub short : to ≤ 512
-  pub is : NewRow (table-by facts rs) (norms-in facts) d e y (slice from to out)

@@ -1,10 +1,10 @@
--- `decomposing::likely` meets its contract. Assumes nothing.
+-- `candidates::likely` meets its contract. Assumes nothing.
 use borrow.Author.Needs.{needs}
 use Rattle.rows.specs.Region.{new-half}
 use Rattle.rows.proofs.LentRows.{new-lent}
-use Rattle.decomposing.proofs.LikelyJobs.{not-prime, other-front, by-marks}
-use Rattle.decomposing.proofs.likely.Statement.{statement}
-use Rattle.decomposing.proofs.likely.Tie as tie
+use Rattle.candidates.proofs.LikelyJobs.{not-prime, other-front, by-marks}
+use Rattle.candidates.proofs.likely.Statement.{statement}
+use Rattle.candidates.proofs.likely.Tie as tie
 
 returns : tie.Need-returns
 returns c =

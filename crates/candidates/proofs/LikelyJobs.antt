@@ -14,9 +14,9 @@ use Rattle.rows.specs.Region.{row, Within, old-half}
 use Rattle.rows.specs.Answers.{Decides}
 use Rattle.facts.specs.Facts.{norms-in, jobs-in, table-by, Tables}
 use Rattle.facts.proofs.Lookups.{marks-equal}
-use Rattle.decomposing.specs.Candidates.{Likely}
-use Rattle.decomposing.proofs.JobsOfTable.{job-below}
-use Rattle.decomposing.proofs.RowEnds.{same-front}
+use Rattle.candidates.specs.Candidates.{Likely}
+use Rattle.candidates.proofs.JobsOfTable.{job-below}
+use Rattle.candidates.proofs.RowEnds.{same-front}
 
 -- THE TEST: whether the job is prime, then the first jobs of the old rows, then the marks
 module _ (facts area new region half : List ℕ) (is : region ≡ half) (y x : ℕ) (prime : Bool) (told : Decides prime (row new region x ≡ x ∷ [])) where

@@ -1,0 +1,2 @@
+-- Jobs that may decompose another.
+pub mod Candidates
