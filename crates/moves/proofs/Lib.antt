@@ -1,4 +1,4 @@
--- Laws of the n-th move.
+-- Laws of the moves that a plan shows, and of the n-th of them.
 pub mod ShownMoves
 pub mod OnlyShown
 pub mod OneCombination

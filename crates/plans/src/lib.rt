@@ -27,7 +27,7 @@ pub fn nth_move(image: &[u8], plan: &[u8], index: u32, out: &mut [u8]) -> i32
     if refusal != 0 {
         return answer::refused(refusal);
     }
-    moves::nth_move(
+    nth_move::nth_move(
         table.jobs,
         rules_of(&table.rules, table.end),
         plan,

@@ -1,4 +1,4 @@
--- `moves::nth_move` meets its contract. Assumes nothing.
+-- `nth_move::nth_move` meets its contract. Assumes nothing.
 use mathlib.Core.Path.{_≡_, refl, sym, ap, _∙_, subst}
 use mathlib.Core.Bool.{Bool, cond}
 use mathlib.Core.List.{List, [], _∷_}
@@ -14,14 +14,14 @@ use lib.Seq.{take-all}
 use Rattle.bpa.specs.Plans.{moves}
 use Rattle.rules.specs.Places.{rule-at, rule-count, table-of}
 use Rattle.rules.proofs.ListLaws.{good-has-place}
 use Rattle.moves.specs.Shown.{once, shown}
 use Rattle.moves.specs.Moves.{move-bytes, bytes-by, IsNth}
 use Rattle.area.specs.Areas.{put}
 use Rattle.area.specs.Numbers.{low-first}
 use Rattle.answer.proofs.Answers.{nothing, too-short, written}
 use Rattle.moves.proofs.MoveByRule.{moved}
-use Rattle.moves.proofs.nth_move.Statement.{statement}
-use Rattle.moves.proofs.nth_move.Tie as tie
+use Rattle.nth_move.proofs.nth_move.Statement.{statement}
+use Rattle.nth_move.proofs.nth_move.Tie as tie
 
 -- the move that was found, or none
 none-found : (n : ℕ) (rs p : List ℕ) (k i : ℕ) → 0 < length p → IsNth rs (getD p 0 0) k i → rule-count rs ≤ i →

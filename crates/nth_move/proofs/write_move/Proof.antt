@@ -1,4 +1,4 @@
--- `moves::write_move` meets its contract. Assumes nothing.
+-- `nth_move::write_move` meets its contract. Assumes nothing.
 use mathlib.Core.Path.{_≡_, ap, ap₂, _∙_}
 use mathlib.Core.List.{List, _++_}
 use Prim.Native.Nat.{ℕ, _+_}
@@ -8,9 +8,9 @@ use Rattle.rules.specs.Places.{rule-at}
 use Rattle.area.specs.Areas.{put}
 use Rattle.area.specs.Numbers.{low-first}
 use Rattle.area.proofs.PutLaws.{put-put}
 use Rattle.moves.specs.Moves.{bytes-by}
-use Rattle.moves.proofs.write_move.Statement.{statement}
-use Rattle.moves.proofs.write_move.Tie as tie
+use Rattle.nth_move.proofs.write_move.Statement.{statement}
+use Rattle.nth_move.proofs.write_move.Tie as tie
 
 bytes-length : (rs : List ℕ) (i : ℕ) (w : List ℕ) → length (bytes-by rs i w) ≡ 2 + (length (rule-at rs i .after) + length w)
 unfolding bytes-by low-first
