@@ -3,3 +3,4 @@ pub mod ReplacedMoves
 pub mod ReplacedTables
 pub mod AlikeBisimulations
 pub mod ListClashes
+pub mod ReplacedRuns

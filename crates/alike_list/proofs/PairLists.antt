@@ -20,7 +20,7 @@ length-pairs (suc n) ls = ap suc (length-pairs n (drop 4 ls))
 abbrev pub pair-at : (list : List ℕ) → (k : ℕ) → Pair
 pair-at ls k = record { from = number-at (4 * k) ls; to = number-at (4 * k + 2) ls }
 
-number-drop : (n i : ℕ) (ls : List ℕ) → number-at i (drop n ls) ≡ number-at (n + i) ls
+pub number-drop : (n i : ℕ) (ls : List ℕ) → number-at i (drop n ls) ≡ number-at (n + i) ls
 unfolding number-at
 number-drop n i ls =
     let e : n + suc i ≡ suc (n + i) = omega arith in

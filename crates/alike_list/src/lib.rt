@@ -33,8 +33,8 @@ pub struct Pairs {
     pub tos: [u16; 32],
 }
 
-// The move in two bytes of a list.
-fn move_at(list: &[u8], at: usize) -> u16
+// The move in two bytes of a list, or of a log.
+pub fn move_at(list: &[u8], at: usize) -> u16
     requires { ⌜ at + 1 < length (now list) ⌝ }
     ensures { λ r. ⌜ IsMove (number-at at (now (list .entry))) r ⌝ }
 {

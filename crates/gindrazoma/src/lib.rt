@@ -3,6 +3,7 @@
 ghost use Rattle.images.specs.ImageCalls.{Read, Written};
 ghost use Rattle.plans.specs.PlanCalls.{Normed, Moved, RanFirst};
 ghost use Rattle.sameness.specs.SamenessCalls.{Compared, Formed, ComparedAlike, FormedAlike};
+ghost use Rattle.logs.specs.LogCalls.{Replayed};
 
 // The table of an image: the job count in one byte, then the rules, 8 bytes each.
 #[no_mangle]
@@ -96,4 +97,18 @@ pub extern "C" fn gindrazoma_prime_form_alike(
     ensures { λ r. ⌜ FormedAlike (now (image .entry)) (now (alike .entry)) (now (plan .entry)) (now (out .entry)) (now (space .entry)) r (now (out .exit)) (now (space .exit)) ⌝ }
 {
     sameness::prime_form_alike(image, alike, plan, out, space)
+}
+
+// A log of moves replayed on a plan under an alike list: 1 for whole, 0 for part, else 2 plus the place.
+#[no_mangle]
+pub extern "C" fn gindrazoma_replay_log(
+    image: &[u8],
+    alike: &[u8],
+    plan: &[u8],
+    log: &[u8],
+    space: &mut [u8],
+) -> i32
+    ensures { λ r. ⌜ Replayed (now (image .entry)) (now (alike .entry)) (now (plan .entry)) (now (log .entry)) (now (space .entry)) r (now (space .exit)) ⌝ }
+{
+    logs::replay_log(image, alike, plan, log, space)
 }

@@ -197,7 +197,7 @@ no-list-formed = formed-none
 
 -- an image under a list is a source of tables
 module _ (bs ls : List ℕ) where
-  source : listed-refusal bs ls ≡ 0 → Accepted (alike-table bs ls)
+  pub source : listed-refusal bs ls ≡ 0 → Accepted (alike-table bs ls)
   source z = accepted (alike-pairs ls) (table-in bs) (image-table bs (neither (image-refusal bs) (alike-refusal ls) z .0))
 
 pub alike-compare-tells : promised.Alike-compare-tells

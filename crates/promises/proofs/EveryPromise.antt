@@ -6,6 +6,7 @@ use Rattle.promises.proofs.BothAges as bothages
 use Rattle.promises.proofs.Remainders as remainders
 use Rattle.promises.proofs.FirstRuns as firstruns
 use Rattle.promises.proofs.AlikeLists as alikelists
+use Rattle.promises.proofs.LogReplays as logreplays
 use Rattle.promises.proofs.WorkedCases as workedcases
 
 pub every-promise : EveryPromise
@@ -99,6 +100,21 @@ every-promise = record {
   alike-form-written = alikelists.alike-form-written;
   alike-stands-written = alikelists.alike-stands-written;
   alike-forms-written = alikelists.alike-forms-written;
+  eleven-exactly = logreplays.eleven-exactly;
+  whole-exactly = logreplays.whole-exactly;
+  part-exactly = logreplays.part-exactly;
+  place-exactly = logreplays.place-exactly;
+  place-inside = logreplays.place-inside;
+  runs-complete = logreplays.runs-complete;
+  nothing-replayed = logreplays.nothing-replayed;
+  replays-reordered = logreplays.replays-reordered;
+  first-run-whole = logreplays.first-run-whole;
+  replaced-runs = logreplays.replaced-runs;
+  replay-whole = logreplays.replay-whole;
+  replay-part = logreplays.replay-part;
+  replay-place = logreplays.replay-place;
+  replay-small = logreplays.replay-small;
+  no-list-replayed = logreplays.no-list-replayed;
   rows-normed = remainders.rows-normed;
   remainders-normed = remainders.remainders-normed;
   unequal-norms = remainders.unequal-norms;

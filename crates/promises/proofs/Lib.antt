@@ -8,6 +8,7 @@ pub mod Promises
 pub mod SourceCalls
 pub mod Calls
 pub mod AlikeLists
+pub mod LogReplays
 pub mod BothAges
 pub mod Remainders
 pub mod FirstRuns

@@ -8,7 +8,7 @@ use Prim.Native.Nat.{ℕ}
 use lib.Dec.{eqb}
 use lib.ListN.{getD}
 use borrow.Author.Tests.{eqb-true, not-true}
-use Rattle.area.specs.Numbers.{number-at, low-first}
+use Rattle.area.specs.Numbers.{number-at, low-first, all-low-first, numbers-in}
 use Rattle.bpa.specs.Plans.{Table, all-below, job-moves, moves, over}
 use Rattle.bpa.specs.Norms.{sum-of, all-known, lesser, best, one-round, rounds, norms, Good}
 use Rattle.bpa.specs.Bisimilar.{Bisimilar, Prime, All-lowest, one-more, Form}
@@ -42,10 +42,13 @@ use Rattle.alike.proofs.ReplacedTables.{norms-replaced, good-replaced}
 use Rattle.alike_list.specs.AlikeLists.{pairs-in, pair-count, alike-pairs, pairs-refusal, clash-refusal, alike-refusal}
 use Rattle.alike_list.specs.AlikeTables.{two-plans-alike}
 use Rattle.table.proofs.ListTables.{list-closed}
+use Rattle.replay.specs.Replay.{by-move, after-move, none-left, one-empty, replay-from, replay}
+use Rattle.log_moves.specs.Logs.{log-moves, counted-log, log-refusal}
+use Rattle.logs.specs.LogCalls.{plan-and-log, replayed}
 use Rattle.promises.specs.WorkedCases.{Worked, image-of, read-back, listed, HasNorms, Means, plan-passes, pair-passes, has-form}
 use Rattle.promises.specs.WorkedCases.{listed-under, under-passes, passes, all-pass, cases, Cases-hold}
 use Rattle.promises.specs.WorkedCases.{Case, refusal-is, byte-is, norms-are, pair-refusal-is, are-same, are-apart, form-is, is-prime, move-is, run-is}
-use Rattle.promises.specs.WorkedCases.{alike-refusal-is, same-under, apart-under}
+use Rattle.promises.specs.WorkedCases.{alike-refusal-is, same-under, apart-under, log-refusal-is, replay-is, log-passes}
 
 -- THE COMPUTED PROOF
 cases-pass : all-pass cases ≡ true
@@ -58,6 +61,7 @@ unfolding all-pass passes has-form plan-passes pair-passes equal-plans same-move
     image-refusal low-first blocks-for rules-for body written-block written-from written list-refusal write-refusal
     earlier earliest runs-by job-run run-of first-run under-passes pairs-in pair-count alike-pairs pairs-refusal clash-refusal alike-refusal
     alike.replace replaced-rule replaced stands-in from-twice from-as-to clashes
+    log-passes log-refusal counted-log log-moves all-low-first numbers-in by-move after-move none-left one-empty replay-from replay
 cases-pass = refl
 
 module _ (w : Worked) where
@@ -142,6 +146,25 @@ module _ (w : Worked) where
         let exact = same-exact u g p q (a .over-table) (b .over-table) in
         (λ s. exact .0 (same-back ∙ s), λ s. sym same-back ∙ exact .1 s)
 
+  -- a log under an alike list
+  module _ (ls p g : List ℕ) (e : log-passes ls w p g ≡ true) where
+    abbrev check-log : Table → ℕ
+    check-log t = or-else (alike-refusal ls) (or-else (plan-refusal (replaced (alike-pairs ls) t) p) (log-refusal g))
+
+    log-accepted : plan-and-log (image-of w) ls p g ≡ 0
+    unfolding log-passes
+    log-accepted =
+        let plan = plan-refusal (replaced (alike-pairs ls) (read-back w)) p in
+        let (a, b) = neither (alike-refusal ls) (or-else plan (log-refusal g)) (check-passed check-log e) in
+        let (c, d) = neither plan (log-refusal g) b in
+        let f = image-refusal (image-of w) in
+        both-pass (or-else (or-else f (alike-refusal ls)) plan) (log-refusal g)
+        (both-pass (or-else f (alike-refusal ls)) plan (both-pass f (alike-refusal ls) (image-passed check-log e) a) c) d
+
+    log-told : (n : ℕ) → replay (replaced (alike-pairs ls) (listed w)) p (counted-log ls g) ≡ n → replayed (image-of w) ls p g ≡ n
+    unfolding log-passes
+    log-told n h = ap (λ (t : Table). replay (replaced (alike-pairs ls) t) p (counted-log ls g)) (back check-log e) ∙ h
+
   -- a row of numbers that is computed from the table is one of the table in the image
   module _ (p : List ℕ) (row : Table → List ℕ) (is : List ℕ) (e : (plan-passes w p && equal-plans (row (listed w)) is) ≡ true) where
     abbrev check-plan : Table → ℕ
@@ -205,6 +228,11 @@ case-true (apart-under ls w p q) e =
     let k = and-left (under-passes ls w p q) (not (same t p q)) e in
     let no = not-true (same t p q) (and-right (under-passes ls w p q) (not (same t p q)) e) in
     (under-accepted w ls p q k, λ b. never-both (same t p q) (under-told w ls p q k .1 b) no)
+case-true (log-refusal-is g f) e = eqb-true (log-refusal g) f e
+case-true (replay-is ls w p g n) e =
+    let r = replay (listed-under ls w) p (counted-log ls g) in
+    let k = and-left (log-passes ls w p g) (eqb r n) e in
+    (log-accepted w ls p g k, log-told w ls p g k n (eqb-true r n (and-right (log-passes ls w p g) (eqb r n) e)))
 case-true (move-is w p n bs) e =
     let row : Table → List ℕ = λ t. move-bytes (shown t p) n in
     (both-passed w (check-plan w p row bs e) (plan-passed w p row bs e), row-back w p row bs e)

@@ -6,6 +6,7 @@ use Rattle.promises.specs.BothAges as bothages
 use Rattle.promises.specs.Remainders as remainders
 use Rattle.promises.specs.FirstRuns as firstruns
 use Rattle.promises.specs.AlikeLists as alikelists
+use Rattle.promises.specs.LogReplays as logreplays
 use Rattle.promises.specs.WorkedCases as workedcases
 
 pub record EveryPromise : Type 1 where
@@ -109,6 +110,22 @@ pub record EveryPromise : Type 1 where
   pub alike-form-written : alikelists.Alike-form-written
   pub alike-stands-written : alikelists.Alike-stands-written
   pub alike-forms-written : alikelists.Alike-forms-written
+  -- LOGS REPLAYED
+  pub eleven-exactly : logreplays.Eleven-exactly
+  pub whole-exactly : logreplays.Whole-exactly
+  pub part-exactly : logreplays.Part-exactly
+  pub place-exactly : logreplays.Place-exactly
+  pub place-inside : logreplays.Place-inside
+  pub runs-complete : logreplays.Runs-complete
+  pub nothing-replayed : logreplays.Nothing-replayed
+  pub replays-reordered : logreplays.Replays-reordered
+  pub first-run-whole : logreplays.First-run-whole
+  pub replaced-runs : logreplays.Replaced-runs
+  pub replay-whole : logreplays.Replay-whole
+  pub replay-part : logreplays.Replay-part
+  pub replay-place : logreplays.Replay-place
+  pub replay-small : logreplays.Replay-small
+  pub no-list-replayed : logreplays.No-list-replayed
   -- THE NORMS THAT THE ROUNDS LOOK UP
   pub rows-normed : remainders.Rows-normed
   pub remainders-normed : remainders.Remainders-normed

@@ -1,5 +1,6 @@
 -- The worked tables of document 01 marked P, two of them from 000, one whose moves need two bytes, one with a choice written again and again, and
--- one with several shortest runs, in two orders; and alike lists: one list of cases, what each means, and one test over them.
+-- one with several shortest runs, in two orders; alike lists, and logs: one list of cases, what each
+-- means, and one test over them.
 -- The test computes on the rules of a table; the meaning is of the image that is written from them. Assumes nothing: these are
 -- definitions.
 use mathlib.Core.Path.{_≡_}
@@ -8,6 +9,7 @@ use mathlib.Core.List.{List, [], _∷_, _++_, List·Memᴰ}
 use Prim.Native.Nat.{ℕ, _<_}
 use lib.Dec.{eqb}
 use lib.ListN.{getD}
+use Rattle.area.specs.Numbers.{all-low-first}
 use Rattle.bpa.specs.Plans.{Table}
 use Rattle.bpa.specs.Norms.{norms, Fewest, Endless}
 use Rattle.bpa.specs.Bisimilar.{Bisimilar, Prime, Form}
@@ -24,6 +26,9 @@ use Rattle.table.specs.CallRefusals.{one-plan, two-plans}
 use Rattle.alike.specs.Alike.{replaced}
 use Rattle.alike_list.specs.AlikeLists.{alike-pairs, alike-refusal}
 use Rattle.alike_list.specs.AlikeTables.{alike-table, two-plans-alike}
+use Rattle.replay.specs.Replay.{replay}
+use Rattle.log_moves.specs.Logs.{counted-log, log-refusal}
+use Rattle.logs.specs.LogCalls.{plan-and-log, replayed}
 
 -- A WORKED TABLE: a job count, and the rules as 8-byte places in a row
 pub record Worked : Type 0 where
@@ -59,6 +64,9 @@ pub data Case : Type 0 where
   alike-refusal-is : (list : List ℕ) (refusal : ℕ) → Case
   same-under : (list : List ℕ) (w : Worked) (left right : List ℕ) → Case
   apart-under : (list : List ℕ) (w : Worked) (left right : List ℕ) → Case
+  -- what a log is refused by, and what one comes to on a plan under an alike list
+  log-refusal-is : (log : List ℕ) (refusal : ℕ) → Case
+  replay-is : (list : List ℕ) (w : Worked) (plan log : List ℕ) (answer : ℕ) → Case
 
 -- a job of norm 0 has no run to its end
 abbrev pub HasNorms : Table → (jobs : ℕ) → (by-job : List ℕ) → Type 0
@@ -80,6 +88,8 @@ Means (run-is w p run) = (one-plan (image-of w) p ≡ 0) × First (read-back w) 
 Means (alike-refusal-is ls f) = alike-refusal ls ≡ f
 Means (same-under ls w p q) = (two-plans-alike (image-of w) ls p q ≡ 0) × Bisimilar (alike-table (image-of w) ls) p q
 Means (apart-under ls w p q) = (two-plans-alike (image-of w) ls p q ≡ 0) × (Bisimilar (alike-table (image-of w) ls) p q → ⊥)
+Means (log-refusal-is g f) = log-refusal g ≡ f
+Means (replay-is ls w p g n) = (plan-and-log (image-of w) ls p g ≡ 0) × (replayed (image-of w) ls p g ≡ n)
 
 -- THE TEST
 -- no refusal meets the list and the plans
@@ -96,6 +106,10 @@ listed-under ls w = replaced (alike-pairs ls) (listed w)
 unfoldable pub under-passes : (list : List ℕ) → (w : Worked) → (p q : List ℕ) → Bool
 under-passes ls w p q =
     eqb (or-else (write-refusal (w .jobs) (w .rules)) (or-else (alike-refusal ls) (plans-refusal (listed-under ls w) p q))) 0
+
+unfoldable pub log-passes : (list : List ℕ) → (w : Worked) → (p g : List ℕ) → Bool
+log-passes ls w p g =
+    eqb (or-else (write-refusal (w .jobs) (w .rules)) (or-else (alike-refusal ls) (or-else (plan-refusal (listed-under ls w) p) (log-refusal g)))) 0
 
 unfoldable pub has-form : (w : Worked) → (p f : List ℕ) → Bool
 has-form w p f = plan-passes w p && equal-plans (prime-form (listed w) p) f
@@ -114,6 +128,8 @@ passes (run-is w p run) = plan-passes w p && equal-plans (first-run (listed w) p
 passes (alike-refusal-is ls f) = eqb (alike-refusal ls) f
 passes (same-under ls w p q) = under-passes ls w p q && same (listed-under ls w) p q
 passes (apart-under ls w p q) = under-passes ls w p q && not (same (listed-under ls w) p q)
+passes (log-refusal-is g f) = eqb (log-refusal g) f
+passes (replay-is ls w p g n) = log-passes ls w p g && eqb (replay (listed-under ls w) p (counted-log ls g)) n
 
 unfoldable pub all-pass : List Case → Bool
 all-pass [] = true
@@ -201,6 +217,10 @@ ties-reordered =
 abbrev pub pair : (from to : ℕ) → List ℕ
 pair a b = a ∷ 0 ∷ b ∷ 0 ∷ []
 
+-- a log by its moves
+abbrev pub log : (moves : List ℕ) → List ℕ
+log l = all-low-first l
+
 abbrev pub cases : List Case
 cases =
     refusal-is table-t 0 ∷ byte-is table-t 510 152 ∷ byte-is table-t 511 1 ∷ norms-are table-t (1 ∷ 2 ∷ 3 ∷ 2 ∷ []) ∷
@@ -230,7 +250,16 @@ cases =
     alike-refusal-is (pair 97 98 ++ pair 97 99) 13 ∷
     same-under (pair 98 97) table-t (3 ∷ []) (1 ∷ []) ∷ apart-under (pair 99 97) table-t (3 ∷ []) (1 ∷ []) ∷
     same-under (pair 99 98) late-choice (0 ∷ []) (2 ∷ []) ∷ apart-under (pair 98 97) late-choice (0 ∷ []) (2 ∷ []) ∷
-    same-under (232 ∷ 3 ∷ 232 ∷ 0 ∷ []) larger-moves (0 ∷ []) (1 ∷ []) ∷ apart-under (pair 232 97) larger-moves (0 ∷ []) (1 ∷ []) ∷ []
+    same-under (232 ∷ 3 ∷ 232 ∷ 0 ∷ []) larger-moves (0 ∷ []) (1 ∷ []) ∷ apart-under (pair 232 97) larger-moves (0 ∷ []) (1 ∷ []) ∷
+    log-refusal-is [] 0 ∷ log-refusal-is (97 ∷ []) 11 ∷ log-refusal-is (97 ∷ 0 ∷ 97 ∷ []) 11 ∷
+    replay-is [] table-t (2 ∷ 3 ∷ []) (log (97 ∷ 97 ∷ 97 ∷ 98 ∷ 97 ∷ [])) 1 ∷ replay-is [] table-t (2 ∷ 3 ∷ []) (log (97 ∷ 97 ∷ [])) 0 ∷
+    replay-is [] table-t (2 ∷ 3 ∷ []) (log (97 ∷ 97 ∷ 98 ∷ [])) 4 ∷
+    replay-is [] table-t [] [] 1 ∷ replay-is [] table-t (0 ∷ []) [] 0 ∷ replay-is [] table-t [] (log (97 ∷ [])) 2 ∷
+    replay-is [] late-choice (2 ∷ []) (log (97 ∷ 98 ∷ [])) 1 ∷ replay-is [] late-choice (2 ∷ []) (log (97 ∷ 99 ∷ [])) 1 ∷
+    replay-is [] late-choice (2 ∷ []) (log (97 ∷ 97 ∷ [])) 3 ∷ replay-is [] growing (0 ∷ []) (log (97 ∷ 97 ∷ 97 ∷ 98 ∷ 98 ∷ 98 ∷ [])) 1 ∷
+    replay-is [] larger-moves (0 ∷ []) (log (1000 ∷ [])) 1 ∷ replay-is [] larger-moves (0 ∷ []) (log (232 ∷ [])) 2 ∷
+    replay-is [] table-t (3 ∷ []) (log (97 ∷ 97 ∷ [])) 2 ∷ replay-is (pair 98 97) table-t (3 ∷ []) (log (97 ∷ 97 ∷ [])) 1 ∷
+    replay-is (pair 98 97) table-t (1 ∷ []) (log (98 ∷ 97 ∷ [])) 1 ∷ []
 
 -- EVERY CASE IS TRUE
 unfoldable pub Cases-hold : Type 0

@@ -1,0 +1,2 @@
+-- Plans followed through a log.
+pub mod Followed

@@ -1,0 +1,3 @@
+-- Laws of levels.
+pub mod CellChanges
+pub mod RulesByLevel

@@ -1,0 +1,2 @@
+-- The cells of a log, filled from its end.
+pub mod Levels

@@ -1,0 +1,2 @@
+-- Laws of logs as bytes.
+pub mod LogMoves

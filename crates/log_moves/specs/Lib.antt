@@ -1,0 +1,2 @@
+-- Logs as bytes.
+pub mod Logs

@@ -1,0 +1,2 @@
+-- What the call that replays a log answers.
+pub mod LogCalls

@@ -1,0 +1,4 @@
+-- Laws of reaches.
+pub mod PutCells
+pub mod WordBits
+pub mod ReachLaws

@@ -1,0 +1,27 @@
+-- `reach::through` meets its contract. Assumes nothing.
+use Prim.Native.Nat.{_-_}
+use native.Mathlib.Omega.{arith}
+use borrow.Author.Needs.{needs}
+use Rattle.reach.proofs.WordBits.{shifted}
+use Rattle.reach.proofs.ReachLaws.{reaches-low, reaches-high}
+use Rattle.reach.proofs.through.Statement.{statement}
+use Rattle.reach.proofs.through.Tie as tie
+
+returns : tie.Need-returns
+returns c =
+    let d = c .before .args .left in
+    rw (shifted d (omega arith)) (reaches-low d (omega arith))
+
+returns-2 : tie.Need-returns-2
+returns-2 c =
+    let d = c .before .args .left in
+    rw (shifted (d - 64) (omega arith)) (reaches-high d (omega arith) (omega arith))
+
+pub through-spec : {M : Type 1} → statement M
+through-spec =
+    tie.close
+    (tie.spec
+    (λ c. search needs)  -- shl-t4
+    returns
+    (λ c. search needs)  -- shl-t7
+    returns-2)

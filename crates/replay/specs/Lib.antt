@@ -1,0 +1,3 @@
+-- Logs replayed on plans.
+pub mod Replay
+pub mod Ends

@@ -1,0 +1,1 @@
+// A log of moves replayed on a plan. No code: definitions and theorems.

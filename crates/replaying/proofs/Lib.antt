@@ -1,0 +1,2 @@
+-- How the answer comes about.
+pub mod ReachedAnswers

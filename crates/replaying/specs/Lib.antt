@@ -1,0 +1,2 @@
+-- A log replayed on a plan.
+pub mod Outcomes
