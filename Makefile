@@ -112,7 +112,7 @@ bench: $(ARCHIVE)
 	@build/cargo/timing/bench
 
 # the norm alone: make callgrind COUNTED=norm-calls
-COUNTED = norm-calls move-calls run-calls short-run-calls compare-calls alike-calls
+COUNTED = norm-calls move-calls run-calls short-run-calls compare-calls alike-calls log-calls
 
 callgrind: $(ARCHIVE)
 	@$(CARGO) build -q --profile timing -p bench $(addprefix --bin ,$(COUNTED))
@@ -144,8 +144,8 @@ build/samples/samples: examples/samples.c
 	@mkdir -p $(@D)
 	$(CC) -std=c11 -pedantic $(WARNINGS) $(CFLAGS) -o $@ $<
 
-check-example: build/examples/pool build/examples/pool-cpp
-	@tests/outputs.sh examples/pool.out build/examples/pool build/examples/pool-cpp
+check-example: build/examples/pool build/examples/pool-cpp build/examples/crane build/examples/crane-cpp
+	@tests/outputs.sh $^
 
 check-samples: build/samples/samples $(PLANLOOK)
 	@tests/samples.sh build/samples/samples $(PLANLOOK)

@@ -1,12 +1,10 @@
 #!/bin/sh
-# outputs.sh EXPECTED PROGRAM..: each program writes what the file says.
+# outputs.sh PROGRAM..: each program, NAME or NAME-cpp, writes what examples/NAME.out says.
 set -u
-expected=$1
-shift
 passed=0
 failed=0
 for program do
-    if "$program" | cmp - "$expected"; then
+    if "$program" | cmp - "examples/$(basename "$program" -cpp).out"; then
         echo "ok $program"
         passed=$((passed + 1))
     else

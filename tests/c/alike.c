@@ -8,69 +8,7 @@
 #include <string.h>
 #include <sys/mman.h>
 
-enum { PAIRS = 32, FORM = 4096 };
-
-/* The image and the alike list in force. */
-static uint8_t image[2560], list[4 * (PAIRS + 8)];
-static size_t image_len, list_len;
-
-/* A table comes into force without a list. */
-static void use(const struct table *t)
-{
-    image_len = image_of(t, image);
-    list_len = 0;
-}
-
-static void put_pair(size_t k, int from, int to)
-{
-    const int pair[4] = { from % 256, from / 256, to % 256, to / 256 };
-    for (size_t i = 0; i < 4; i++)
-        list[4 * k + i] = (uint8_t)pair[i];
-}
-
-static void add_pair(int from, int to)
-{
-    put_pair(list_len / 4, from, to);
-    list_len += 4;
-}
-
-static int from_of(size_t k)
-{
-    return list[4 * k] + 256 * list[4 * k + 1];
-}
-
-static int to_of(size_t k)
-{
-    return list[4 * k + 2] + 256 * list[4 * k + 3];
-}
-
-/* A list as text, two letters a pair: "ba" says that b counts as a. */
-static void alike(const char *text)
-{
-    list_len = 0;
-    for (; *text != 0; text += 2)
-        add_pair(text[0], text[1]);
-}
-
-/* Pairs of moves that no table here makes. */
-static void fill_list(size_t pairs)
-{
-    list_len = 0;
-    for (size_t k = 0; k < pairs; k++)
-        add_pair(1001 + 4 * (int)k, 2001 + (int)k % 5);
-}
-
-/* The list's refusal, worked out from the header. */
-static int refusal_of_pairs(void)
-{
-    if (list_len > 128 || list_len % 4 != 0)
-        return 12;
-    for (size_t i = 0; i < list_len / 4; i++)
-        for (size_t j = 0; j < list_len / 4; j++)
-            if ((i != j && from_of(i) == from_of(j)) || from_of(i) == to_of(j))
-                return 13;
-    return 0;
-}
+enum { FORM = 4096 };
 
 static int32_t compare_in(const uint8_t *p, size_t m, const uint8_t *q, size_t n, size_t space_len)
 {
@@ -105,14 +43,6 @@ static int32_t form_in(const uint8_t *p, size_t n, const uint8_t *wanted, int32_
     area_free(&out);
     area_free(&space);
     return got;
-}
-
-/* One workspace for many calls, with other bytes in it each time. */
-static uint8_t *one_space(void)
-{
-    static uint8_t space[SPACE];
-    memset(space, (int)random_below(256), SPACE);
-    return space;
 }
 
 static int32_t quick_compare(const uint8_t *p, size_t m, const uint8_t *q, size_t n)
@@ -172,20 +102,11 @@ static void a_and_b(int32_t want)
     CHECK_EQ(form[0], want < 0 ? 99 : want == 1 ? a : b);
 }
 
-/* A job for each letter from 'a' on, which makes this move and is done. */
-static struct table table_letters(int jobs)
-{
-    struct table t = table_new((uint32_t)jobs);
-    for (int k = 0; k < jobs; k++)
-        rule0(&t, k, 'a' + k);
-    return t;
-}
-
 /* ---- answers */
 
 static void joined_by_a_list(void)
 {
-    struct table t = table_letters(4);
+    struct table t = table_letters(4, 4);
     use(&t);
     compared("A", "B", 0);
     formed("DCBA", "DCBA");
@@ -216,7 +137,7 @@ static void joined_by_a_list(void)
 
 static void one_of_two_lists(void)
 {
-    struct table t = table_letters(3);
+    struct table t = table_letters(3, 3);
     use(&t);
     alike("ba");
     compared("A", "B", 1);
@@ -375,76 +296,6 @@ static void each_rule_of_four_blocks(void)
 
 /* ---- random tables and lists */
 
-enum { MOVES = 8 };
-static const int moves[MOVES] = { 0, 255, 256, 65535, 'a', 'a' + 256, 'b', 'a' + 512 };
-
-/* The first rule of each job leads to lower ones only, so that every job can finish. */
-static struct table random_table(uint32_t jobs)
-{
-    struct table t = table_new(jobs);
-    uint32_t used = 2 + random_below(MOVES - 1), extra = random_below(2 * jobs + 1);
-    for (uint32_t j = 0; j < jobs + extra; j++) {
-        uint32_t job = j < jobs ? j : random_below(jobs), below = j < jobs ? j : jobs;
-        int row[2] = { 0, 0 }, after = below == 0 ? 0 : (int)random_below(3);
-        for (int i = 0; i < after; i++)
-            row[i] = (int)random_below(below);
-        add_rule(&t, (int)job, moves[random_below(used)], after, row[0], row[1], 0, 0);
-    }
-    return t;
-}
-
-static void shuffle_pairs(void)
-{
-    for (size_t k = list_len / 4; k > 1; k--) {
-        size_t other = random_below((uint32_t)k);
-        int from = from_of(k - 1), to = to_of(k - 1);
-        put_pair(k - 1, from_of(other), to_of(other));
-        put_pair(other, from, to);
-    }
-}
-
-/* Some of the moves count as others, which then stay; pairs of moves that no rule makes stand between them. */
-static void random_list(void)
-{
-    int order[MOVES];
-    size_t froms = random_below(MOVES);
-    fill_list(random_below(3) == 0 ? random_below(PAIRS + 1 - MOVES) : 0);
-    memcpy(order, moves, sizeof moves);
-    for (size_t i = MOVES; i > 1; i--) {
-        size_t other = random_below((uint32_t)i);
-        int move = order[i - 1];
-        order[i - 1] = order[other];
-        order[other] = move;
-    }
-    for (size_t i = 0; i < froms; i++)
-        add_pair(order[i], order[froms + random_below((uint32_t)(MOVES - froms))]);
-    shuffle_pairs();
-    CHECK_EQ(refusal_of_pairs(), 0);
-}
-
-static size_t random_plan(uint8_t *plan, uint32_t jobs, uint32_t longest)
-{
-    size_t n = random_below(longest + 1);
-    for (size_t i = 0; i < n; i++)
-        plan[i] = (uint8_t)random_below(jobs);
-    return n;
-}
-
-static struct table some_table(int which)
-{
-    switch (which) {
-    case 0: return table_t();
-    case 1: return table_s();
-    case 2: return table_xyz();
-    case 3: return table_doubling(5);
-    case 4: return table_full(40);
-    case 5: return table_full(252);
-    case 6: return table_repeated();
-    case 7: return table_edges();
-    default: return random_table(1 + random_below(6));
-    }
-}
-
 /* A plan and its form without a list are the same, and stay so under every list. */
 static void the_same_stays_the_same(void)
 {
@@ -465,21 +316,6 @@ static void the_same_stays_the_same(void)
         CHECK(k >= 0 && memcmp(form, other, (size_t)k) == 0);
         CHECK(k >= m); /* the raw form's jobs are a plan that is the same under the list too */
     }
-}
-
-/* The table in force with its moves replaced by the list in force. */
-static struct table replaced(const struct table *t)
-{
-    struct table u = *t;
-    for (size_t r = 0; r < u.rules; r++) {
-        uint8_t *rule = u.bytes + 8 * r;
-        for (size_t k = 0; k < list_len / 4; k++)
-            if (move_of(t->bytes + 8 * r) == from_of(k)) {
-                rule[1] = list[4 * k + 2];
-                rule[7] = list[4 * k + 3];
-            }
-    }
-    return u;
 }
 
 enum { PLANS = 64, LONGEST = 3 };
@@ -618,7 +454,7 @@ static void moves_that_no_rule_makes(void)
 /* Everywhere below, A makes a and B makes b. */
 static void use_letters(void)
 {
-    struct table t = table_letters(3);
+    struct table t = table_letters(3, 3);
     use(&t);
 }
 
@@ -901,48 +737,7 @@ static void lengths_above_32_bits(void)
     munmap(bytes, four_gib + 4);
 }
 
-/* An image that is refused with this number, 2 to 7, or accepted. */
-static void use_image_refused(int refusal)
-{
-    struct table t = table_doubling(refusal == 7 ? 10 : 9);
-    if (refusal == 6)
-        t.jobs = 10;
-    if (refusal == 5)
-        t.bytes[2] = 5;
-    use(&t);
-    if (refusal == 4)
-        image[506] = 1;
-    seal(image);
-    if (refusal == 3)
-        image[511] ^= 1;
-    if (refusal == 2)
-        image_len = 511;
-    CHECK_EQ(refusal_of_image(image, image_len), refusal);
-}
-
-/* Defects beside those of the image, and what is answered with a set of them. */
-enum { SHORT_SPACE = 1, HALF_PAIR = 2, MANY_PAIRS = 4, CLASH = 8, NO_JOB = 16, HIGH_NORM = 32, SHORT_OUTPUT = 64, SETS = 128 };
-
-static int first_refusal(int image_refusal, int set)
-{
-    return set & SHORT_SPACE ? 1 : image_refusal != 0 ? image_refusal : set & (HALF_PAIR | MANY_PAIRS) ? 12
-         : set & CLASH ? 13 : set & NO_JOB ? 8 : set & HIGH_NORM ? 9 : set & SHORT_OUTPUT ? 10 : 0;
-}
-
-static int of_two_or_fewer(int set)
-{
-    set &= set - 1;
-    return (set & (set - 1)) == 0;
-}
-
-static void list_with(int set)
-{
-    fill_list(set & MANY_PAIRS ? PAIRS + 1 : 2);
-    if (set & CLASH)
-        put_pair(1, from_of(0), to_of(0));
-    if (set & HALF_PAIR)
-        list_len -= 2;
-}
+enum { SHORT_OUTPUT = DEFECTS, SETS = 2 * DEFECTS };
 
 /* The plan with the defects, whose good form is AAA, alone and on either side; 8 of one plan comes before 9 of the other. */
 static void first_defect_answered(int refusal, int set)
@@ -950,7 +745,7 @@ static void first_defect_answered(int refusal, int set)
     static const uint8_t aaa[3], good = 1, no_job = 24;
     uint8_t plan[10], high[9];
     size_t n = set & HIGH_NORM ? 9 : 1, space_len = set & SHORT_SPACE ? SPACE - 1 : SPACE;
-    int first = first_refusal(refusal, set), pair = first_refusal(refusal, set & ~SHORT_OUTPUT);
+    int pair = first_refusal(refusal, set), first = pair == 0 && set & SHORT_OUTPUT ? 10 : pair;
     int32_t form = first == 0 ? 3 : -first;
     memset(high, 8, 9);
     memset(plan, set & HIGH_NORM ? 8 : 1, 10);

@@ -165,3 +165,10 @@ void space_left(const struct area *space, int32_t answer)
         CHECK(area_kept(space, SPACE));
     }
 }
+
+uint8_t *one_space(void)
+{
+    static uint8_t space[SPACE];
+    memset(space, (int)random_below(256), SPACE);
+    return space;
+}

@@ -1,4 +1,4 @@
-/* Cases, areas with guard bytes, and tables written from docs/FORMAT.md: what the C tests are made of. */
+/* Cases, areas with guard bytes, and tables and alike lists written from docs/FORMAT.md: what the C tests are made of. */
 #ifndef CHECK_H
 #define CHECK_H
 
@@ -51,6 +51,9 @@ enum { SPACE = 65536 }; /* bytes that a workspace needs */
 /* The workspace after a call: untouched after refusal 1, else zero at its start and untouched behind. */
 void space_left(const struct area *space, int32_t answer);
 
+/* One workspace for many calls, with other bytes in it each time. */
+uint8_t *one_space(void);
+
 /* Tables as a job count and 8-byte rules. */
 struct table {
     uint32_t jobs;
@@ -78,11 +81,52 @@ struct table table_repeated(void);   /* one job with 84 different rules, each th
 enum { EDGES = 6 };
 struct table table_edges(void);      /* a job each for the moves 0, 255, 256, 65,535, 'a' and 'a' + 256 */
 
+/* Letters, jobs of norm 1: job 0 is 'a' and so on; jobs beyond them have no rule yet. */
+struct table table_letters(uint32_t jobs, int letters);
+
+/* A table with its rules in random order, and some of them more than once if it has fewer than these. */
+struct table shuffled(const struct table *t, size_t rules);
+
+enum { MOVES = 8 };
+int random_move(uint32_t used);      /* one of the first of the moves, up to MOVES, that random tables make */
+struct table random_table(uint32_t jobs);
+struct table some_table(int which);  /* 0 to 7: one of those above; else a random one of 1 to 6 jobs */
+
 /* A plan from text, a letter for each job from A on; its length. */
 size_t plan_of(const char *text, uint8_t *plan);
+size_t random_plan(uint8_t *plan, uint32_t jobs, uint32_t longest);
 
-/* The refusal of an image or a rule list, 2 to 7 or 0 for none, worked out from the documents. */
+enum { PAIRS = 32 }; /* pairs that a list may have */
+
+/* The image and the alike list in force. */
+extern uint8_t image[2560], list[4 * (PAIRS + 8)];
+extern size_t image_len, list_len;
+
+void use(const struct table *t); /* a table comes into force, without a list */
+void put_pair(size_t k, int from, int to);
+void add_pair(int from, int to);
+int from_of(size_t k);
+int to_of(size_t k);
+void alike(const char *text);    /* a list as text, two letters a pair: "ba" says that b counts as a */
+void fill_list(size_t pairs);    /* pairs of moves that no table here makes */
+void random_list(void);          /* pairs of moves of random tables, and of moves that no rule makes */
+void shuffle_pairs(void);
+int counted(int move);           /* the number that a move counts as */
+struct table replaced(const struct table *t); /* with its moves replaced */
+
+/* The refusal of an image or a rule list, 2 to 7 or 0 for none, and that of the list in force, worked out from the documents. */
 int refusal_of_image(const uint8_t *image, size_t len);
 int refusal_of_list(uint32_t jobs, const uint8_t *rules, size_t len);
+int refusal_of_pairs(void);
+
+/* An image comes into force that is refused with this number, 2 to 7, or accepted with 0; or one with a set of defects, bit k for refusal k. */
+void use_image_refused(int refusal);
+void use_image_with(int set);
+
+/* Defects beside those of the image, and what is answered with a set of them; a call has further ones from DEFECTS on. */
+enum { SHORT_SPACE = 1, HALF_PAIR = 2, MANY_PAIRS = 4, CLASH = 8, NO_JOB = 16, HIGH_NORM = 32, DEFECTS = 64 };
+int first_refusal(int image_refusal, int set);
+int of_two_or_fewer(int set);
+void list_with(int set);         /* a list with the set's defects comes into force */
 
 #endif

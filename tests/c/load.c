@@ -8,7 +8,7 @@
 #include <stdlib.h>
 #include <string.h>
 
-enum { OUT = 8192, TABLES = 7, CALLS = 512, KINDS = 9, THREADS = 8, STACK = 1 << 20 };
+enum { OUT = 8192, TABLES = 7, CALLS = 512, KINDS = 10, THREADS = 8, STACK = 1 << 20 };
 
 static struct table tables[TABLES];
 static uint8_t images[TABLES][2560];
@@ -17,8 +17,8 @@ static size_t image_lens[TABLES];
 /* A call with the answer that it gave when it was alone. */
 struct call {
     int which, table;
-    uint8_t left[40], right[40], alike[128];
-    size_t left_len, right_len, alike_len, out_len;
+    uint8_t left[40], right[40], alike[128], log[258];
+    size_t left_len, right_len, alike_len, log_len, out_len;
     uint32_t index;
     int32_t answer;
     uint8_t out[OUT];
@@ -46,12 +46,14 @@ static int32_t make(const struct call *c, struct areas *a)
     case 6: return gindrazoma_prime_form(image, len, c->left, c->left_len, a->out, c->out_len, a->space, SPACE + c->index);
     case 7: return gindrazoma_compare_alike(image, len, c->alike, c->alike_len, c->left, c->left_len, c->right, c->right_len,
                                             a->space, SPACE + c->index);
-    default: return gindrazoma_prime_form_alike(image, len, c->alike, c->alike_len, c->left, c->left_len, a->out, c->out_len,
-                                                a->space, SPACE + c->index);
+    case 8: return gindrazoma_prime_form_alike(image, len, c->alike, c->alike_len, c->left, c->left_len, a->out, c->out_len,
+                                               a->space, SPACE + c->index);
+    default: return gindrazoma_replay_log(image, len, c->alike, c->alike_len, c->left, c->left_len, c->log, c->log_len,
+                                          a->space, SPACE + c->index);
     }
 }
 
-static size_t random_plan(uint8_t *plan, uint32_t jobs)
+static size_t plan_of_call(uint8_t *plan, uint32_t jobs)
 {
     size_t n = random_below(20);
     for (size_t i = 0; i < n; i++)
@@ -62,7 +64,7 @@ static size_t random_plan(uint8_t *plan, uint32_t jobs)
 }
 
 /* Moves of the tables, 'b', 'c' and thousands, count as 'a' or 'd'; some lists clash, and some have an unfinished pair. */
-static size_t random_list(uint8_t *list)
+static size_t list_of_call(uint8_t *list)
 {
     size_t n = 4 * random_below(random_below(2) ? 2 : 33);
     memset(list, 0, n);
@@ -75,6 +77,25 @@ static size_t random_list(uint8_t *list)
     if (n > 0 && random_below(10) == 0)
         list[0] = list[2];
     return n > 0 && random_below(10) == 0 ? n - 1 : n;
+}
+
+/* Moves of the table, every second time behind the left plan's shortest run; some are too many, and some end in half a move. */
+static size_t log_of_call(struct call *c)
+{
+    static uint8_t run[OUT];
+    const struct table *t = &tables[c->table];
+    size_t n = 2 * random_below(random_below(8) ? 20 : 129);
+    int32_t bytes = gindrazoma_shortest_run(images[c->table], image_lens[c->table], c->left, c->left_len, run, OUT);
+    for (size_t i = 0; i < n; i += 2) {
+        const uint8_t *rule = t->bytes + 8 * random_below((uint32_t)t->rules);
+        c->log[i] = rule[1];
+        c->log[i + 1] = rule[7];
+    }
+    if (bytes > 0 && random_below(2) == 0) {
+        n = random_below(2) && bytes < 256 ? (size_t)bytes : n;
+        memcpy(c->log, run, (size_t)bytes < n ? (size_t)bytes : n);
+    }
+    return random_below(10) == 0 ? n + 1 : random_below(10) == 0 ? 258 : n;
 }
 
 static void prepare(void)
@@ -93,9 +114,10 @@ static void prepare(void)
         struct call *c = &calls[i];
         c->which = i % KINDS;
         c->table = (int)random_below(random_below(4) ? 5 : TABLES);
-        c->left_len = random_plan(c->left, tables[c->table].jobs);
-        c->right_len = random_plan(c->right, tables[c->table].jobs);
-        c->alike_len = random_list(c->alike);
+        c->left_len = plan_of_call(c->left, tables[c->table].jobs);
+        c->right_len = plan_of_call(c->right, tables[c->table].jobs);
+        c->alike_len = list_of_call(c->alike);
+        c->log_len = log_of_call(c);
         c->index = random_below(8);
         c->out_len = random_below(4) ? OUT : random_below(30);
         memset(a.out, 0, OUT);
@@ -201,7 +223,7 @@ static size_t stack_of(struct call *c)
 static void stack_under_16_kib(void)
 {
     static const char *const names[KINDS] = { "read_image", "write_image", "plan_norm", "shortest_run", "nth_move", "compare",
-                                              "prime_form", "compare_alike", "prime_form_alike" };
+                                              "prime_form", "compare_alike", "prime_form_alike", "replay_log" };
     size_t most[KINDS] = { 0 }, none;
     if (small_run())
         return; /* valgrind does not let a stack be looked at */

@@ -6,14 +6,6 @@
 #include <stdlib.h>
 #include <string.h>
 
-static uint8_t image[2560];
-static size_t image_len;
-
-static void use(const struct table *t)
-{
-    image_len = image_of(t, image);
-}
-
 static int32_t norm_of(const uint8_t *plan, size_t len)
 {
     struct area in = area_copy(image, image_len), p = area_copy(plan, len);
@@ -686,15 +678,6 @@ static void long_runs(void)
     free(ones);
 }
 
-/* Letters, jobs of norm 1: job 0 is 'a' and so on. */
-static struct table table_letters(uint32_t jobs, int letters)
-{
-    struct table t = table_new(jobs);
-    for (int j = 0; j < letters; j++)
-        rule0(&t, j, 'a' + j);
-    return t;
-}
-
 /* Rules with one move, told apart by the second, third or fourth move; the run that comes first is by the rule in the middle. */
 static void ties_settled_later(void)
 {
@@ -847,21 +830,6 @@ static void numbers_and_not_bytes(void)
         use(&t);
         run_is(plan, 3, run, sizeof run);
     }
-}
-
-/* A table with its rules in random order, and some of them more than once. */
-static struct table shuffled(const struct table *t, size_t rules)
-{
-    struct table other = *t;
-    while (other.rules < rules)
-        memcpy(other.bytes + 8 * other.rules++, t->bytes + 8 * random_below((uint32_t)t->rules), 8);
-    for (size_t i = other.rules - 1; i > 0; i--) {
-        uint8_t place[8], *a = other.bytes + 8 * i, *b = other.bytes + 8 * random_below((uint32_t)i + 1);
-        memcpy(place, a, 8);
-        memcpy(a, b, 8);
-        memcpy(b, place, 8);
-    }
-    return other;
 }
 
 static void rules_in_another_order(void)

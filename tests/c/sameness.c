@@ -6,14 +6,6 @@
 #include <stdlib.h>
 #include <string.h>
 
-static uint8_t image[2560];
-static size_t image_len;
-
-static void use(const struct table *t)
-{
-    image_len = image_of(t, image);
-}
-
 static int32_t compare_in(const uint8_t *p, size_t m, const uint8_t *q, size_t n, size_t space_len)
 {
     struct area in = area_copy(image, image_len), left = area_copy(p, m), right = area_copy(q, n), space = area_new(space_len);

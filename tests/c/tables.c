@@ -1,4 +1,4 @@
-/* Tables, their images and their refusals, written from the documents and not from the library. */
+/* Tables, alike lists, their images and their refusals, written from the documents and not from the library. */
 #include "check.h"
 
 #include <string.h>
@@ -149,6 +149,174 @@ struct table table_edges(void)
     return t;
 }
 
+struct table table_letters(uint32_t jobs, int letters)
+{
+    struct table t = table_new(jobs);
+    for (int j = 0; j < letters; j++)
+        rule0(&t, j, 'a' + j);
+    return t;
+}
+
+struct table shuffled(const struct table *t, size_t rules)
+{
+    struct table other = *t;
+    while (other.rules < rules)
+        memcpy(other.bytes + 8 * other.rules++, t->bytes + 8 * random_below((uint32_t)t->rules), 8);
+    for (size_t i = other.rules - 1; i > 0; i--) {
+        uint8_t place[8], *a = other.bytes + 8 * i, *b = other.bytes + 8 * random_below((uint32_t)i + 1);
+        memcpy(place, a, 8);
+        memcpy(a, b, 8);
+        memcpy(b, place, 8);
+    }
+    return other;
+}
+
+/* ---- random tables and plans */
+
+static const int moves[MOVES] = { 0, 255, 256, 65535, 'a', 'a' + 256, 'b', 'a' + 512 };
+
+int random_move(uint32_t used)
+{
+    return moves[random_below(used)];
+}
+
+/* The first rule of each job leads to lower ones only, so that every job can finish. */
+struct table random_table(uint32_t jobs)
+{
+    struct table t = table_new(jobs);
+    uint32_t used = 2 + random_below(MOVES - 1), extra = random_below(2 * jobs + 1);
+    for (uint32_t j = 0; j < jobs + extra; j++) {
+        uint32_t job = j < jobs ? j : random_below(jobs), below = j < jobs ? j : jobs;
+        int row[2] = { 0, 0 }, after = below == 0 ? 0 : (int)random_below(3);
+        for (int i = 0; i < after; i++)
+            row[i] = (int)random_below(below);
+        add_rule(&t, (int)job, random_move(used), after, row[0], row[1], 0, 0);
+    }
+    return t;
+}
+
+struct table some_table(int which)
+{
+    switch (which) {
+    case 0: return table_t();
+    case 1: return table_s();
+    case 2: return table_xyz();
+    case 3: return table_doubling(5);
+    case 4: return table_full(40);
+    case 5: return table_full(252);
+    case 6: return table_repeated();
+    case 7: return table_edges();
+    default: return random_table(1 + random_below(6));
+    }
+}
+
+size_t random_plan(uint8_t *plan, uint32_t jobs, uint32_t longest)
+{
+    size_t n = random_below(longest + 1);
+    for (size_t i = 0; i < n; i++)
+        plan[i] = (uint8_t)random_below(jobs);
+    return n;
+}
+
+/* ---- the image and the alike list in force */
+
+uint8_t image[2560], list[4 * (PAIRS + 8)];
+size_t image_len, list_len;
+
+void use(const struct table *t)
+{
+    image_len = image_of(t, image);
+    list_len = 0;
+}
+
+void put_pair(size_t k, int from, int to)
+{
+    const int pair[4] = { from % 256, from / 256, to % 256, to / 256 };
+    for (size_t i = 0; i < 4; i++)
+        list[4 * k + i] = (uint8_t)pair[i];
+}
+
+void add_pair(int from, int to)
+{
+    put_pair(list_len / 4, from, to);
+    list_len += 4;
+}
+
+int from_of(size_t k)
+{
+    return list[4 * k] + 256 * list[4 * k + 1];
+}
+
+int to_of(size_t k)
+{
+    return list[4 * k + 2] + 256 * list[4 * k + 3];
+}
+
+void alike(const char *text)
+{
+    list_len = 0;
+    for (; *text != 0; text += 2)
+        add_pair(text[0], text[1]);
+}
+
+void fill_list(size_t pairs)
+{
+    list_len = 0;
+    for (size_t k = 0; k < pairs; k++)
+        add_pair(1001 + 4 * (int)k, 2001 + (int)k % 5);
+}
+
+void shuffle_pairs(void)
+{
+    for (size_t k = list_len / 4; k > 1; k--) {
+        size_t other = random_below((uint32_t)k);
+        int from = from_of(k - 1), to = to_of(k - 1);
+        put_pair(k - 1, from_of(other), to_of(other));
+        put_pair(other, from, to);
+    }
+}
+
+/* Some of the moves count as others, which then stay; pairs of moves that no rule makes stand between them. */
+void random_list(void)
+{
+    int order[MOVES];
+    size_t froms = random_below(MOVES);
+    fill_list(random_below(3) == 0 ? random_below(PAIRS + 1 - MOVES) : 0);
+    memcpy(order, moves, sizeof moves);
+    for (size_t i = MOVES; i > 1; i--) {
+        size_t other = random_below((uint32_t)i);
+        int move = order[i - 1];
+        order[i - 1] = order[other];
+        order[other] = move;
+    }
+    for (size_t i = 0; i < froms; i++)
+        add_pair(order[i], order[froms + random_below((uint32_t)(MOVES - froms))]);
+    shuffle_pairs();
+    CHECK_EQ(refusal_of_pairs(), 0);
+}
+
+int counted(int move)
+{
+    for (size_t k = 0; k < list_len / 4; k++)
+        if (from_of(k) == move)
+            return to_of(k);
+    return move;
+}
+
+struct table replaced(const struct table *t)
+{
+    struct table u = *t;
+    for (size_t r = 0; r < u.rules; r++) {
+        uint8_t *rule = u.bytes + 8 * r;
+        int move = counted(move_of(rule));
+        rule[1] = (uint8_t)(move % 256);
+        rule[7] = (uint8_t)(move / 256);
+    }
+    return u;
+}
+
+/* ---- refusals */
+
 /* Byte 7 is the high byte of the move and may be anything. */
 static int bad_place(uint32_t jobs, const uint8_t *p)
 {
@@ -238,4 +406,59 @@ int refusal_of_image(const uint8_t *image, size_t len)
         }
     }
     return refusal_of_norms(image[0], rules, count);
+}
+
+int refusal_of_pairs(void)
+{
+    if (list_len > 128 || list_len % 4 != 0)
+        return 12;
+    for (size_t i = 0; i < list_len / 4; i++)
+        for (size_t j = 0; j < list_len / 4; j++)
+            if ((i != j && from_of(i) == from_of(j)) || from_of(i) == to_of(j))
+                return 13;
+    return 0;
+}
+
+void use_image_with(int set)
+{
+    struct table t = table_doubling(set >> 7 & 1 ? 10 : 9);
+    if (set >> 6 & 1)
+        t.jobs++;
+    if (set >> 5 & 1)
+        t.bytes[2] = 5;
+    use(&t);
+    if (set >> 4 & 1)
+        image[506] = 1;
+    seal(image);
+    if (set >> 3 & 1)
+        image[511] ^= 1;
+    if (set >> 2 & 1)
+        image_len = 511;
+}
+
+void use_image_refused(int refusal)
+{
+    use_image_with(1 << refusal);
+    CHECK_EQ(refusal_of_image(image, image_len), refusal);
+}
+
+int first_refusal(int image_refusal, int set)
+{
+    return set & SHORT_SPACE ? 1 : image_refusal != 0 ? image_refusal : set & (HALF_PAIR | MANY_PAIRS) ? 12
+         : set & CLASH ? 13 : set & NO_JOB ? 8 : set & HIGH_NORM ? 9 : 0;
+}
+
+int of_two_or_fewer(int set)
+{
+    set &= set - 1;
+    return (set & (set - 1)) == 0;
+}
+
+void list_with(int set)
+{
+    fill_list(set & MANY_PAIRS ? PAIRS + 1 : 2);
+    if (set & CLASH)
+        put_pair(1, from_of(0), to_of(0));
+    if (set & HALF_PAIR)
+        list_len -= 2;
 }
