@@ -51,7 +51,7 @@ fn under_list(areas: &[u8], list: usize, (left, right): &Pair, space: &mut [u8])
 /// As many from-moves as a list can have, each in a rule: a new one for each of the first rules, and the later rules by turns.
 fn spread(table: &Table) -> Listed {
     let from = other_moves(table, |i| 1000 + 331 * i);
-    let pairs: Vec<_> = from.into_iter().zip(table.rules.iter().map(|r| r.action)).collect();
+    let pairs: Vec<_> = from.into_iter().zip(table.rules.iter().map(|r| r.action).cycle()).collect();
     let mut raw = table.clone();
     for (i, r) in raw.rules.iter_mut().enumerate() {
         let ways: Vec<u16> = pairs.iter().filter(|pair| pair.1 == r.action).map(|pair| pair.0).collect();

@@ -46,22 +46,33 @@ pub fn runs(image: &[u8], pair: &Pair) -> [(i32, Vec<u8>); 3] {
     })
 }
 
+/// Inputs of calls: their names, how many pairs each has, how each is made, and what the calls get for its image.
+pub struct Inputs {
+    pub names: Vec<&'static str>,
+    pub pairs: usize,
+    pub make: fn(usize) -> Input,
+    pub areas: fn(&[u8]) -> Vec<u8>,
+}
+
 /// Every kind of pair is among so many.
 const PAIRS: usize = 12;
 
-/// Without words: a line for each table, and one with the number of pairs and the programs. With a table's number: its image and
-/// pairs as planlook reads them. With a program and how often: its call so often on each of the pairs of such an input.
-pub fn run(programs: &[Program]) -> ExitCode {
-    run_on(programs, |_| (), |image| image.to_vec())
+impl Inputs {
+    /// The tables that are timed alone.
+    pub fn single_tables() -> Inputs {
+        let names = SINGLE_TABLES.iter().map(|(name, ..)| *name).collect();
+        Inputs { names, pairs: PAIRS, make: |i| single_table(1, i, PAIRS), areas: |image| image.to_vec() }
+    }
 }
 
-/// The same with pairs that are changed before they are written, and with what the calls get for an image.
-pub fn run_on(programs: &[Program], change: fn(&mut Input), areas: fn(&[u8]) -> Vec<u8>) -> ExitCode {
+/// Without words: a line for each table, and one with the number of pairs and the programs. With a table's number: its image and
+/// pairs as planlook reads them. With a program and how often: its call so often on each of the pairs of such an input.
+pub fn run(programs: &[Program], inputs: Inputs) -> ExitCode {
     let words: Vec<String> = std::env::args().skip(1).collect();
     let done = match &words[..] {
-        [] => list(programs),
-        [table] => write_input(table, change),
-        [name, times] => make_calls(programs, name, times, areas),
+        [] => list(programs, &inputs),
+        [table] => write_input(table, &inputs),
+        [name, times] => make_calls(programs, name, times, inputs.areas),
         _ => None,
     };
     if done.is_none() {
@@ -70,15 +81,14 @@ pub fn run_on(programs: &[Program], change: fn(&mut Input), areas: fn(&[u8]) -> 
     ExitCode::from(if done.is_some() { 0 } else { 2 })
 }
 
-fn list(programs: &[Program]) -> Option<()> {
-    SINGLE_TABLES.iter().enumerate().for_each(|(i, (name, ..))| println!("{i} {name}"));
-    println!("{PAIRS} {}", programs.iter().map(|(name, _)| *name).collect::<Vec<_>>().join(" "));
+fn list(programs: &[Program], inputs: &Inputs) -> Option<()> {
+    inputs.names.iter().enumerate().for_each(|(i, name)| println!("{i} {name}"));
+    println!("{} {}", inputs.pairs, programs.iter().map(|(name, _)| *name).collect::<Vec<_>>().join(" "));
     Some(())
 }
 
-fn write_input(table: &str, change: fn(&mut Input)) -> Option<()> {
-    let mut input = single_table(1, table.parse().ok().filter(|&i| i < SINGLE_TABLES.len())?, PAIRS);
-    change(&mut input);
+fn write_input(table: &str, inputs: &Inputs) -> Option<()> {
+    let input = (inputs.make)(table.parse().ok().filter(|&i| i < inputs.names.len())?);
     let mut bytes = input.image;
     for plan in input.pairs.iter().flat_map(|(left, right)| [left, right]) {
         put_plan(&mut bytes, plan);

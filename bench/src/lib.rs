@@ -4,4 +4,5 @@ pub mod calls;
 mod hostile;
 mod hostile_runs;
 pub mod inputs;
+pub mod logs;
 pub mod pairs;

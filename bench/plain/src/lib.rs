@@ -1,11 +1,13 @@
 //! The calls of gindrazoma as an ordinary Rust program: the baseline of the benchmark. Compare and prime form are there
 //! three times: by document 01's method as one writes it at first (`first`) and with every choice of speed (`base`), and
-//! by the library's method (`rows`); the shortest run twice, as it is written at first and with every choice of speed. Answers, refusals and areas are those of include/gindrazoma.h.
+//! by the library's method (`rows`); the shortest run twice, as it is written at first and with every choice of speed; the replay of a
+//! log once, under an alike list. Answers, refusals and areas are those of include/gindrazoma.h.
 #![no_std]
 #![forbid(unsafe_code)]
 
 extern crate alloc;
 
+mod alike;
 pub mod base;
 pub mod first;
 mod first_runs;
@@ -13,6 +15,7 @@ mod held_pairs;
 mod image;
 mod index;
 mod judge;
+mod logs;
 mod norms;
 mod region;
 pub mod rows;
@@ -22,8 +25,10 @@ mod table;
 
 pub use steps::{Meter, Steps};
 
+use alike::Alike;
 use image::{fill_block, layout_of_list, load};
 use index::first_written;
+use logs::Log;
 use norms::{job_norms, plan_norms, table_refusal};
 use region::Rows;
 use table::{Table, JOBS, RULE};
@@ -98,6 +103,18 @@ pub fn nth_move(image: &[u8], plan: &[u8], index: u32, out: &mut [u8]) -> i32 {
         out[2..2 + after.len()].copy_from_slice(after);
         out[2 + after.len()..].copy_from_slice(behind);
         Ok(out.len() as i32)
+    })
+}
+
+pub fn replay_log(image: &[u8], alike: &[u8], plan: &[u8], log: &[u8], space: &mut [u8]) -> i32 {
+    in_workspace(space, |space| {
+        let (mut table, norms) = checked(image)?;
+        let alike = Alike::load(alike)?;
+        plan_norms(&norms, table.jobs, [plan])?;
+        let mut log = Log::load(log)?;
+        alike.replace(table.actions());
+        alike.replace(log.moves());
+        Ok(logs::replay(&table, plan, &log, space))
     })
 }
 

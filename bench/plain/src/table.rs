@@ -41,6 +41,11 @@ impl Table {
         self.bytes[r * RULE] as usize
     }
 
+    /// The moves of all rules.
+    pub fn actions(&mut self) -> &mut [u16] {
+        &mut self.actions[..self.count]
+    }
+
     pub fn action(&self, r: usize) -> u16 {
         self.actions[r]
     }

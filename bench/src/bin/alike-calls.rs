@@ -1,8 +1,8 @@
 //! Calls of compare under alike lists, and without a list over the image whose moves are replaced.
 use bench::alike::{areas, ALIKE};
-use bench::calls::run_on;
+use bench::calls::{run, Inputs};
 use outside::refusals::table_of_image;
 
 fn main() -> std::process::ExitCode {
-    run_on(&ALIKE, |_| (), |image| areas(&table_of_image(image)))
+    run(&ALIKE, Inputs { areas: |image| areas(&table_of_image(image)), ..Inputs::single_tables() })
 }

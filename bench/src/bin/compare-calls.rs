@@ -1,6 +1,6 @@
 //! Calls of compare.
-use bench::calls::{run, COMPARE};
+use bench::calls::{run, Inputs, COMPARE};
 
 fn main() -> std::process::ExitCode {
-    run(&COMPARE)
+    run(&COMPARE, Inputs::single_tables())
 }

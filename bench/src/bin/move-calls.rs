@@ -1,6 +1,6 @@
 //! Calls for a move of a plan.
-use bench::calls::{run, MOVE};
+use bench::calls::{run, Inputs, MOVE};
 
 fn main() -> std::process::ExitCode {
-    run(&MOVE)
+    run(&MOVE, Inputs::single_tables())
 }

@@ -1,6 +1,6 @@
 //! Calls of the norm of a plan.
-use bench::calls::{run, NORM};
+use bench::calls::{run, Inputs, NORM};
 
 fn main() -> std::process::ExitCode {
-    run(&NORM)
+    run(&NORM, Inputs::single_tables())
 }

@@ -1,6 +1,6 @@
 //! Calls for the first shortest run of a plan.
-use bench::calls::{run, RUN};
+use bench::calls::{run, Inputs, RUN};
 
 fn main() -> std::process::ExitCode {
-    run(&RUN)
+    run(&RUN, Inputs::single_tables())
 }

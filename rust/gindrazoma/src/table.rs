@@ -1,4 +1,4 @@
-use crate::{raw, Alike, Refusal};
+use crate::{raw, Alike, Refusal, Replay};
 
 /// A job may make a move and then becomes 0 to 4 jobs.
 #[derive(Clone, Debug, PartialEq, Eq, Hash)]
@@ -35,7 +35,7 @@ pub struct Move {
     pub rest: Vec<u8>,
 }
 
-/// The memory that a comparison works in; it may serve any number of calls, one after the other.
+/// The memory that a comparison or a replay works in; it may serve any number of calls, one after the other.
 pub struct Workspace(Vec<u8>);
 
 impl Workspace {
@@ -144,5 +144,19 @@ impl Table {
     #[inline]
     pub fn prime_form_alike(&self, space: &mut Workspace, alike: &Alike, plan: &[u8]) -> Result<Vec<u8>, Refusal> {
         written(raw::FORM_MAX, |out| raw::prime_form_alike(&self.image, alike.bytes(), plan, out, &mut space.0))
+    }
+
+    /// What a log of moves is for a plan. Where several rules make one move, each of them is followed. A log has at most 128 moves.
+    #[inline]
+    pub fn replay(&self, space: &mut Workspace, plan: &[u8], log: &[u16]) -> Result<Replay, Refusal> {
+        self.replay_alike(space, &Alike::default(), plan, log)
+    }
+
+    /// What a log of moves is for a plan once the moves of all rules and of the log are replaced by an alike list.
+    #[inline]
+    pub fn replay_alike(&self, space: &mut Workspace, alike: &Alike, plan: &[u8], log: &[u16]) -> Result<Replay, Refusal> {
+        let log: Vec<u8> = log.iter().flat_map(|action| action.to_le_bytes()).collect();
+        let answer = raw::replay_log(&self.image, alike.bytes(), plan, &log, &mut space.0);
+        Refusal::check(answer).map(Replay::of_answer)
     }
 }

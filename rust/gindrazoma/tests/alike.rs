@@ -140,6 +140,7 @@ fn every_refusal_of_the_header_has_words() {
         Refusal::NoSuchJob,
         Refusal::PlanNormHigh,
         Refusal::OutputShort,
+        Refusal::LogLength,
         Refusal::AlikeLength,
         Refusal::AlikeClash,
     ];

@@ -1,5 +1,5 @@
 //! Images that are damaged: bytes changed, blocks cut off, added or exchanged, with the checksums set anew or not; and damaged
-//! alike lists.
+//! alike lists and logs.
 use crate::rng::Rng;
 use crate::table::seal;
 
@@ -83,4 +83,24 @@ pub fn damaged_list(rng: &mut Rng, list: &[u8]) -> Vec<u8> {
         }
     }
     list
+}
+
+/// A log cut off, lengthened to about 128 moves or far beyond, or with a byte changed: perhaps it is accepted all the same.
+pub fn damaged_log(rng: &mut Rng, log: &[u8]) -> Vec<u8> {
+    let mut log = log.to_vec();
+    let len = log.len();
+    match rng.below(5) {
+        0 => log.truncate(rng.below(len + 1)),
+        1 => {
+            let more = *rng.pick(&[1, 2, 3, 128, 256, 257, 512, 65536]);
+            log.extend(rng.bytes(more));
+        }
+        2 | 3 => {
+            let about = rng.range(250, 262);
+            log.extend(rng.bytes(about.saturating_sub(len)));
+        }
+        _ if len > 0 => log[rng.below(len)] = rng.byte(),
+        _ => {}
+    }
+    log
 }

@@ -1,14 +1,17 @@
-//! What the tests over the archive are made of: tables by the definitions, a second comparer and a second way to first runs,
-//! random shapes and alike lists, guarded areas.
+//! What the tests over the archive are made of: tables by the definitions, a second comparer, a second way to first runs and to
+//! replays, random shapes, alike lists and logs, guarded areas.
 pub mod alike;
 pub mod area;
 pub mod damage;
 pub mod first_run;
 pub mod harness;
+pub mod logs;
 pub mod old_format;
 pub mod play;
 pub mod refusals;
+pub mod refused;
 pub mod repeated;
+pub mod replay;
 pub mod rng;
 pub mod second;
 pub mod shapes;

@@ -112,6 +112,15 @@ pub fn of_alike(alike: &[u8]) -> u8 {
     }
 }
 
+/// 11 of a log.
+pub fn of_log(log: &[u8]) -> u8 {
+    if log.len() > 2 * 128 || !log.len().is_multiple_of(2) {
+        11
+    } else {
+        0
+    }
+}
+
 /// 2 to 9 of an image and plans over it.
 pub fn of_plans(image: &[u8], plans: &[&[u8]]) -> u8 {
     of_plans_alike(image, &[], plans)

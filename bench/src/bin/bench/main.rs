@@ -4,6 +4,7 @@ mod timing;
 use bench::alike::{areas, ALIKE, LISTS};
 use bench::calls::{runs, Program, COMPARE, NORM, RUN};
 use bench::inputs::{growth, hostile, hostile_runs, light_and_full, single_table, Input, Pair, SINGLE_TABLES};
+use bench::logs::{self, log_input, LOG, LOG_TABLES};
 use outside::rng::Rng;
 use outside::second::Second;
 use plain::Steps;
@@ -19,6 +20,9 @@ const RUN_BOUND: f64 = 2.0;
 /// How long it may take under a list of 32 pairs, whatever they are, in times of the same without a list.
 const LIST_BOUND: f64 = 1.1;
 
+/// How long it may take to replay a log, in times of the plain program.
+const LOG_BOUND: f64 = 2.0;
+
 fn main() -> ExitCode {
     let Ok(seed) = std::env::var("SEED").unwrap_or("1".to_string()).parse() else {
         eprintln!("SEED is a number");
@@ -31,20 +35,21 @@ fn main() -> ExitCode {
     bench.growth();
     let most_of_runs = bench.shortest_runs(seed);
     let most_of_lists = bench.alike_lists(seed);
+    let most_of_logs = bench.logs();
     let differ = bench.differ;
-    print!("\n1,000 comparisons over one table take at most {most:.2} times as long as in the fastest plain program: ");
-    print!(
-        "{}; shortest runs over tables made to be slow at most {most_of_runs:.2} times as in the first: ",
-        judged(most, BOUND)
-    );
-    print!("{}; comparisons under alike lists at most {most_of_lists:.2} times as without: ", judged(most_of_runs, RUN_BOUND));
-    println!("{}; answers that differ: {differ}", judged(most_of_lists, LIST_BOUND));
-    let hold = most <= BOUND && most_of_runs <= RUN_BOUND && most_of_lists <= LIST_BOUND;
+    let judged = [
+        ("1,000 comparisons over one table take", most, "times as long as in the fastest plain program", BOUND),
+        ("shortest runs over tables made to be slow", most_of_runs, "times as in the first", RUN_BOUND),
+        ("comparisons under alike lists", most_of_lists, "times as without", LIST_BOUND),
+        ("replays of logs", most_of_logs, "times as in the plain program", LOG_BOUND),
+    ];
+    let lines = judged.map(|(what, most, than, bound)| {
+        let holds = if most <= bound { "holds" } else { "does not hold" };
+        format!("{what} at most {most:.2} {than}: the bound of {bound} {holds}; ")
+    });
+    println!("\n{}answers that differ: {differ}", lines.concat());
+    let hold = judged.iter().all(|(_, most, _, bound)| most <= bound);
     ExitCode::from(u8::from(!hold || differ > 0))
-}
-
-fn judged(most: f64, bound: f64) -> String {
-    format!("the bound of {bound} {}", if most <= bound { "holds" } else { "does not hold" })
 }
 
 type Form = fn(&[u8], &[u8], &mut [u8], &mut [u8]) -> i32;
@@ -194,6 +199,28 @@ impl Bench {
         let ratios = under_lists.map(|time| time / none);
         println!("{:<28}{}{}", input.name, columns(&times, 9), columns(&ratios, 7));
         ratios
+    }
+
+    /// The worst ratio to the time of the plain program, without a list and under one.
+    fn logs(&mut self) -> f64 {
+        println!("\nreplay of a log of 128 moves on a plan of norm 4,096, without an alike list and under one of 32 pairs (+):");
+        println!("microseconds a call, the library's ratios");
+        println!("{:<28}{}{:>8}{:>8}", "table", names(&LOG), "/plain", "/plain+");
+        let mut most: f64 = 0.0;
+        for (index, (_, times, _)) in LOG_TABLES.iter().enumerate() {
+            let mut input = log_input(index);
+            input.image = logs::areas(&input.table);
+            for pair in &input.pairs {
+                let answers = LOG.map(|(_, call)| call(&input.image, pair, &mut self.space));
+                self.differ += usize::from(answers != [answers[0]; 4]);
+            }
+            let [library, plain, library_listed, plain_listed] = average(*times, &LOG, std::slice::from_ref(&input));
+            let ratios = [library / plain, library_listed / plain_listed];
+            let times = columns(&[library, plain, library_listed, plain_listed], 9);
+            println!("{:<28}{times}{}", input.name, columns(&ratios, 7));
+            most = ratios.into_iter().fold(most, f64::max);
+        }
+        most
     }
 }
 

@@ -5,11 +5,12 @@ use outside::area::Area;
 use outside::damage::{damaged, damaged_list};
 use outside::harness::{often, Outcome, Suite};
 use outside::refusals::{of_plans_alike, table_of_image};
+use outside::refused::{any_length, any_plan, images_by_refusal, lists_by_refusal, pair_at, plans_by_refusal};
 use outside::rng::Rng;
 use outside::second::Second;
 use outside::shapes::{Made, Shape, SHAPES};
 use outside::space::{cleared, some_length, SPACE};
-use outside::table::{rule, seal, Plan, Table};
+use outside::table::{rule, Plan, Table};
 use outside::{ensure, ensure_eq};
 use std::process::ExitCode;
 
@@ -223,11 +224,6 @@ fn moves_of_two_bytes() -> Outcome {
     Ok(())
 }
 
-/// A pair for each place of a list: its to-move is 97, and no two from-moves are equal.
-fn pair_at(i: usize) -> Pair {
-    (1000 + i as u16, 97)
-}
-
 /// Every length up to 140 bytes and some more. Each pair of an accepted list replaces, and no pair that is not there does.
 fn lengths_of_lists() -> Outcome {
     let mut rng = Rng::new(1);
@@ -288,59 +284,22 @@ fn clashes_at_every_place() -> Outcome {
     Ok(())
 }
 
-/// For each refusal of an image one that is refused by it, and one that is accepted.
-fn images_by_refusal() -> Vec<(i32, Vec<u8>)> {
-    let good = Table::new(2, &[(0, 97, &[]), (1, 98, &[0])]).image();
-    let sealed = |at: usize, byte: u8| {
-        let mut image = good.clone();
-        image[at] = byte;
-        seal(&mut image);
-        image
-    };
-    let mut checksum = good.clone();
-    checksum[510] ^= 1;
-    let mut doubling = Table::new(10, &[(0, 97, &[])]);
-    doubling.rules.extend((1..10).map(|k| rule(k, 97, &[k - 1, k - 1])));
-    vec![
-        (0, good.clone()),
-        (2, good[1..].to_vec()),
-        (3, checksum),
-        (4, sealed(0, 25)),
-        (5, sealed(2, 2)),
-        (6, sealed(2, 1)),
-        (7, doubling.image()),
-    ]
-}
-
-/// Lists by their refusal; those that both are too long and clash are refused by 12.
-fn lists_by_refusal() -> Vec<(i32, Vec<u8>)> {
-    let good: Vec<Pair> = (0..PAIRS_MAX).map(pair_at).collect();
-    let clash = [&good[1..], &[(97, 97)]].concat();
-    let long = bytes_of(&[&good[..], &[pair_at(PAIRS_MAX)]].concat());
-    let both = bytes_of(&[&clash[..], &[(97, 97)]].concat());
-    let unfinished = bytes_of(&clash)[..127].to_vec();
-    let early = [bytes_of(&[(1, 1)]), vec![0]].concat();
-    vec![(0, bytes_of(&good)), (13, bytes_of(&clash)), (12, long), (12, both), (12, unfinished), (12, early)]
-}
-
 /// Every way in which several checks fail at once: the answer is the first one by the order that is written here.
 fn order_of_refusals() -> Outcome {
     let mut rng = Rng::new(1);
-    let many = [&[0; 4097][..], &[2]].concat();
-    let plans: [(i32, &[u8]); 4] = [(0, &[0]), (8, &[2]), (9, &[0; 4097]), (8, &many)];
     let first = |refusals: &[i32]| -refusals.iter().copied().find(|&refusal| refusal != 0).unwrap_or(0);
     for (space, len) in [(0, SPACE), (1, SPACE - 1)] {
         for (image, bytes) in images_by_refusal() {
             for (list, alike) in lists_by_refusal() {
                 let calls = Calls { image: bytes.clone(), alike };
-                for (plan, jobs) in plans {
+                for (plan, jobs) in plans_by_refusal() {
                     let wanted = first(&[space, image, list, plan]);
-                    let answers = [calls.compared(&mut rng, jobs, &[0], len)?, calls.compared(&mut rng, &[0], jobs, len)?];
+                    let answers = [calls.compared(&mut rng, &jobs, &[0], len)?, calls.compared(&mut rng, &[0], &jobs, len)?];
                     let wrong = answers.iter().any(|&answer| if wanted < 0 { answer != wanted } else { answer < 0 });
                     ensure!(!wrong, "compare answers {answers:?} where {space}, {image}, {list} and {plan} are due");
                     let mut out = Area::new(&mut rng, 0);
                     let wanted = first(&[space, image, list, plan, 10]);
-                    ensure_eq!(calls.formed(&mut rng, jobs, &mut out, len)?, wanted, "the form into no area");
+                    ensure_eq!(calls.formed(&mut rng, &jobs, &mut out, len)?, wanted, "the form into no area");
                 }
             }
         }
@@ -382,27 +341,6 @@ fn long_plans(rng: &mut Rng) -> Outcome {
         ensure_eq!(calls.form(rng, &q)?, second.form(&q), "a long form over {:?} under {:?}", listed.raw, listed.pairs);
     }
     Ok(())
-}
-
-/// A plan, at times with a norm that is too high or with a job that is perhaps none.
-fn any_plan(rng: &mut Rng, made: &Made) -> Plan {
-    let mut plan = made.plan(rng, 4096);
-    if rng.once_in(4) {
-        plan = made.plan_of_norm(rng, 4096);
-        plan.push(rng.below(made.table.jobs) as u8);
-    }
-    if rng.once_in(4) {
-        plan.insert(rng.below(plan.len() + 1), rng.byte());
-    }
-    plan
-}
-
-fn any_length(rng: &mut Rng) -> usize {
-    if rng.once_in(6) {
-        rng.below(SPACE)
-    } else {
-        some_length(rng)
-    }
 }
 
 /// A call on new areas for an output and a workspace: its answer, and every byte of both areas after it.

@@ -1,9 +1,12 @@
-//! The plain programs beside the second comparer and the second way to first runs: what the benchmark measures against answers
-//! rightly, and writes moves by the definitions. The library and they on the plans and the alike lists that are timed, which are
-//! as they shall be.
+//! The plain programs beside the second comparer, the second way to first runs and the replay by all plans that are reached: what the
+//! benchmark measures against answers rightly, and writes moves by the definitions. The library and they on the plans, the alike
+//! lists and the logs that are timed, which are as they shall be.
+mod logs;
+
 use bench::alike::{areas, ALIKE, LISTS};
 use bench::calls::{runs, COMPARE, RUN};
 use bench::inputs::{hostile_runs, single_table, Input, SINGLE_TABLES};
+use bench::logs::LOG_TABLES;
 use bench::pairs::{place_of, NEAR, PLAN_NORM};
 use outside::alike::{self, moves_of, PAIRS_MAX};
 use outside::first_run::{bytes_of, first_run};
@@ -34,11 +37,16 @@ fn main() -> ExitCode {
     }
     suite.random("plain, repeated rules", 200, repeated_rules);
     suite.random("plain, tied runs", 200, tied_runs);
+    suite.random("plain, logs", 300, logs::on_plans);
+    suite.random("plain, refused logs", 1000, logs::refused);
     for (index, (name, ..)) in SINGLE_TABLES.iter().enumerate() {
         suite.fixed(&format!("1,000 pairs, {name}"), move || one_table(index));
     }
     for input in hostile_runs() {
         suite.fixed(&format!("run, {}", input.name), move || same_runs(&input, 1));
+    }
+    for (index, (name, ..)) in LOG_TABLES.iter().enumerate() {
+        suite.fixed(&format!("log, {name}"), move || logs::timed(index));
     }
     suite.finish()
 }
