@@ -34,7 +34,8 @@
  *    bytes with the low byte first. A from-move counts as its to-move, and two moves match if they count as the same.
  *  - It has at most GINDRAZOMA_PAIRS_MAX pairs, in any order. No from-move stands twice or stands as a to-move, so
  *    that one replacement is all there is; a to-move may stand often, and moves that no rule makes may stand.
- *  - A list of length 0 is no list: the call answers as the one without a list does.
+ *  - A list of length 0 is no list: moves match if they are equal, and the call answers as the one without a list does,
+ *    if there is one.
  *  - Norms do not depend on a list. Shortest runs and the n-th move show moves as the table has them.
  *  - A log that is replayed under a list has its moves replaced too.
  *  - Prime forms are made for one list: forms made under different lists are not to be compared.
@@ -80,7 +81,7 @@ enum {
     GINDRAZOMA_JOB_NORM_MAX = 512,   /* norm of a job */
     GINDRAZOMA_PLAN_NORM_MAX = 4096, /* norm of a plan; its jobs are no more than that */
     GINDRAZOMA_PAIRS_MAX = 32,       /* pairs of an alike list */
-    GINDRAZOMA_LOG_MAX = 128,        /* moves of a log */
+    GINDRAZOMA_LOG_MAX = 128,        /* moves of a log, which are 256 bytes */
     GINDRAZOMA_IMAGE_MAX = 2048,     /* bytes of an image: what the writer writes */
     GINDRAZOMA_WORKSPACE = 65536,    /* bytes that a workspace needs */
 
@@ -191,13 +192,14 @@ int32_t gindrazoma_prime_form_alike(const uint8_t *image, size_t image_len, cons
 
 /*
  * Replays a log of moves on a plan, under an alike list. A log is a row of moves, two bytes each with the low byte
- * first. A run of the plan is a row of moves that it can make one after the other, and a complete run is one that
- * leads to the empty plan. Moves match if they count as the same by the list. Where several rules make one move,
- * each of them is followed: the answer is about whether there is such a run.
+ * first. A run of the plan is a row of moves, or of none, that it can make one after the other, and a complete run is
+ * one that leads to the empty plan; every run can be completed. Moves match if they count as the same by the list.
+ * Where several rules make one move, each of them is followed: the answer is about whether there is such a run.
  *
  * Answer: 1 ("whole") if the log is a complete run of the plan; else 0 ("part") if some complete run begins with it;
  * else 2 plus the least place in the log, from 0, such that no run begins with the log up to and including the
- * move there: 2 to 129. An empty log is whole on the empty plan and part on any other.
+ * move there: 2 to 129. An empty log is whole on the empty plan and part on any other; on the empty plan every other
+ * log gives 2.
  * Refusals: 1, 2, 3, 4, 5, 6, 7, 12, 13, 8, 9, 11, in this order.
  */
 int32_t gindrazoma_replay_log(const uint8_t *image, size_t image_len, const uint8_t *alike, size_t alike_len,
