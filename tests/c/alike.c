@@ -12,18 +12,7 @@ enum { FORM = 4096 };
 
 static int32_t compare_in(const uint8_t *p, size_t m, const uint8_t *q, size_t n, size_t space_len)
 {
-    struct area in = area_copy(image, image_len), pairs = area_copy(list, list_len);
-    struct area left = area_copy(p, m), right = area_copy(q, n), space = area_new(space_len);
-    int32_t got = gindrazoma_compare_alike(in.bytes, in.len, pairs.bytes, pairs.len, left.bytes, left.len,
-                                           right.bytes, right.len, space.bytes, space.len);
-    CHECK(area_same(&in) && area_same(&pairs) && area_same(&left) && area_same(&right));
-    space_left(&space, got);
-    area_free(&in);
-    area_free(&pairs);
-    area_free(&left);
-    area_free(&right);
-    area_free(&space);
-    return got;
+    return of_two(gindrazoma_compare_alike, p, m, q, n, space_len);
 }
 
 static int32_t form_in(const uint8_t *p, size_t n, const uint8_t *wanted, int32_t want, size_t out_len, size_t space_len)

@@ -114,6 +114,13 @@ void shuffle_pairs(void);
 int counted(int move);           /* the number that a move counts as */
 struct table replaced(const struct table *t); /* with its moves replaced */
 
+/* A call over image, list, two areas that it only reads, and a workspace. */
+typedef int32_t call_of_two(const uint8_t *, size_t, const uint8_t *, size_t, const uint8_t *, size_t, const uint8_t *, size_t,
+                            uint8_t *, size_t);
+
+/* Its answer for the image and the list in force, in areas of their own that are looked at afterwards. */
+int32_t of_two(call_of_two *call, const uint8_t *first, size_t m, const uint8_t *second, size_t n, size_t space_len);
+
 /* The refusal of an image or a rule list, 2 to 7 or 0 for none, and that of the list in force, worked out from the documents. */
 int refusal_of_image(const uint8_t *image, size_t len);
 int refusal_of_list(uint32_t jobs, const uint8_t *rules, size_t len);

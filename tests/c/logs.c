@@ -55,18 +55,7 @@ static struct log log_of_a(size_t times)
 
 static int32_t replay_bytes(const uint8_t *p, size_t n, const uint8_t *bytes, size_t len, size_t space_len)
 {
-    struct area in = area_copy(image, image_len), pairs = area_copy(list, list_len);
-    struct area plan = area_copy(p, n), log = area_copy(bytes, len), space = area_new(space_len);
-    int32_t got = gindrazoma_replay_log(in.bytes, in.len, pairs.bytes, pairs.len, plan.bytes, plan.len,
-                                        log.bytes, log.len, space.bytes, space.len);
-    CHECK(area_same(&in) && area_same(&pairs) && area_same(&plan) && area_same(&log));
-    space_left(&space, got);
-    area_free(&in);
-    area_free(&pairs);
-    area_free(&plan);
-    area_free(&log);
-    area_free(&space);
-    return got;
+    return of_two(gindrazoma_replay_log, p, n, bytes, len, space_len);
 }
 
 static int32_t replay_in(const uint8_t *p, size_t n, const struct log *l, size_t space_len)

@@ -315,6 +315,21 @@ struct table replaced(const struct table *t)
     return u;
 }
 
+int32_t of_two(call_of_two *call, const uint8_t *first, size_t m, const uint8_t *second, size_t n, size_t space_len)
+{
+    struct area areas[] = { area_copy(image, image_len), area_copy(list, list_len), area_copy(first, m), area_copy(second, n) };
+    struct area space = area_new(space_len);
+    int32_t got = call(areas[0].bytes, areas[0].len, areas[1].bytes, areas[1].len, areas[2].bytes, areas[2].len,
+                       areas[3].bytes, areas[3].len, space.bytes, space.len);
+    for (int i = 0; i < 4; i++) {
+        CHECK(area_same(&areas[i]));
+        area_free(&areas[i]);
+    }
+    space_left(&space, got);
+    area_free(&space);
+    return got;
+}
+
 /* ---- refusals */
 
 /* Byte 7 is the high byte of the move and may be anything. */
