@@ -1,7 +1,9 @@
 -- `reach::through` meets its contract. Assumes nothing.
-use Prim.Native.Nat.{_-_}
+use mathlib.Core.Path.{sym, subst}
+use Prim.Native.Nat.{ℕ, _-_}
 use native.Mathlib.Omega.{arith}
 use borrow.Author.Needs.{needs}
+use Rattle.reach.specs.Reaches.{Alone}
 use Rattle.reach.proofs.WordBits.{shifted}
 use Rattle.reach.proofs.ReachLaws.{reaches-low, reaches-high}
 use Rattle.reach.proofs.through.Statement.{statement}
@@ -10,12 +12,12 @@ use Rattle.reach.proofs.through.Tie as tie
 returns : tie.Need-returns
 returns c =
     let d = c .before .args .left in
-    rw (shifted d (omega arith)) (reaches-low d (omega arith))
+    subst (λ (n : ℕ). Alone d n 0 d) (sym (shifted d (omega arith))) (reaches-low d (omega arith))
 
 returns-2 : tie.Need-returns-2
 returns-2 c =
     let d = c .before .args .left in
-    rw (shifted (d - 64) (omega arith)) (reaches-high d (omega arith) (omega arith))
+    subst (λ (n : ℕ). Alone d 0 n d) (sym (shifted (d - 64) (omega arith))) (reaches-high d (omega arith) (omega arith))
 
 pub through-spec : {M : Type 1} → statement M
 through-spec =
