@@ -2,9 +2,9 @@
 use mathlib.Core.Path.{_≡_, sym, ap, _∙_, subst}
 use mathlib.Core.List.{List, [], _∷_}
 use mathlib.Core.Logic.{_⊎_, inl, inr, ⊎-elim, ⊎-map}
-use Prim.Native.Nat.{ℕ, suc, _+_, _-_, _/_, _%_, _^_, _≤_, _<_, min}
+use Prim.Native.Nat.{ℕ, suc, _+_, _-_, _/_, _^_, _≤_, _<_, min}
 use native.Mathlib.Omega.{arith}
-use native.Mathlib.Nat.{div-one, zero-div, le-of-lt, le-of-eq, lt-of-le-of-lt}
+use native.Mathlib.Nat.{div-one, le-of-lt, le-of-eq, lt-of-le-of-lt}
 use lib.Bits.{bitOr}
 use lib.Count.{trailingZeros}
 use lib.Dec.{ltb}
@@ -17,9 +17,14 @@ use Rattle.replay.specs.Ends.{last, Ends, Gets}
 use Rattle.replay.proofs.EndsLaws.{length-last, ends-fewer}
 use Rattle.reach.specs.Cells.{low-at, high-at, least-at, InCell}
 use Rattle.reach.specs.Reaches.{bit, HoldsWord, CellReaches, Joins}
+use Rattle.reach.proofs.WordBits.{zero-bit}
 use Rattle.reach.proofs.ReachLaws.{reaches-as, reaches-joined}
 use Rattle.following.specs.Followed.{cell-of, KnownCells, OneMore, WordMore}
 use Rattle.following.proofs.TrailingBits.{bit-shifted, clear-below, set-above, set-within}
+
+-- a number below the next one is below it, or is it
+pub last-or : {A : Type 0} (s m : ℕ) → s < suc m → (s < m → A) → (s ≡ m → A) → A
+last-or s m l f g = by-test (ltb s m) (λ e. f (ltb-true s m e)) (λ e. g (omega (arith, ltb-false s m e)))
 
 -- a plan with a job is through before the moves left are all there still
 pub through-later : (t : Table) (log p : List ℕ) (d s : ℕ) → d ≤ length log → 0 < length p → Ends t p (last d log) s → s < d
@@ -50,7 +55,7 @@ module _ (t : Table) (log p : List ℕ) (d x : ℕ) where
       reaches-as
       (λ e. (
         (λ w. ⊎-elim (λ v. let (s, l, i, f) = v in (s, omega (arith, l), i, f)) (λ v. (m, omega arith, k, v)) w),
-        (λ w. let (s, l, i, f) = w in last-or s l (λ h. inl (s, h, i, f)) (λ h. inr (subst (λ (n : ℕ). Ends t (x ∷ []) (last n log) e) h f))),
+        (λ w. let (s, l, i, f) = w in last-or s m l (λ h. inl (s, h, i, f)) (λ h. inr (subst (λ (n : ℕ). Ends t (x ∷ []) (last n log) e) h f))),
       ))
       (λ e. (
         (λ w.
@@ -61,16 +66,9 @@ module _ (t : Table) (log p : List ℕ) (d x : ℕ) where
             ⊎-elim (λ g. inl (inl g))
             (λ v.
             let (s, l, i, f) = v in
-            last-or s l (λ h. inl (inr (s, h, i, f))) (λ h. inr (subst (λ (n : ℕ). Gets t (x ∷ []) (last n log) e) h f))) w),
+            last-or s m l (λ h. inl (inr (s, h, i, f))) (λ h. inr (subst (λ (n : ℕ). Gets t (x ∷ []) (last n log) e) h f))) w),
       ))
       (reaches-joined r known joins)
-    where
-      last-or : {A : Type 0} (s : ℕ) → s < suc m → (s < m → A) → (s ≡ m → A) → A
-      last-or s l f g = by-test (ltb s m) (λ e. f (ltb-true s m e)) (λ e. g (omega (arith, ltb-false s m e)))
-
-no-bit : (k : ℕ) → bit 0 k ≡ 0
-unfolding bit
-no-bit k = ap (λ (n : ℕ). n % 2) (zero-div (2 ^ k))
 
 -- THE WALK: the bits that are left, and what was reached by those before
 pub record Walking (cells : List ℕ) (first word a b c low high least bits cell : ℕ) : Type 0 where
@@ -119,7 +117,7 @@ module _ (cells : List ℕ) (first word a b c : ℕ) where
           more-none t log p d x (m + done) (m + 64) (omega (arith, w .begun, w .within))
           (λ s l k e.
           clear t log p d m (s - (m + done)) holds (omega (arith, l, k))
-          (ap (λ (n : ℕ). bit n (s - (m + done))) z ∙ no-bit (s - (m + done))) s (omega (arith, l)) e)
+          (ap (λ (n : ℕ). bit n (s - (m + done))) z ∙ zero-bit (s - (m + done))) s (omega (arith, l)) e)
           (w .reached t log p d x m known some job is holds r);
     }
 

@@ -4,16 +4,14 @@ use mathlib.Core.List.{List}
 use Prim.Native.Nat.{ℕ, suc, _+_, _*_, _%_, _≤_, _<_, min}
 use native.Mathlib.Omega.{arith}
 use lib.Bits.{bitOr}
-use lib.Dec.{eqb, ltb}
 use lib.ListN.{length}
-use borrow.Author.Tests.{eqb-true, eqb-false, ltb-true, ltb-false}
 use Rattle.area.specs.Areas.{put}
 use Rattle.bpa.specs.Plans.{Table}
-use Rattle.bpa.proofs.Basics.Cases.{by-test}
 use Rattle.rules.specs.Places.{rule-at}
 use Rattle.reach.specs.Cells.{low-at, high-at, least-at, cell-bytes, InCell}
 use Rattle.reach.specs.Reaches.{CellReaches, Joins}
 use Rattle.reach.proofs.PutCells.{cells-long, low-put, high-put, least-put, low-kept, high-kept, least-kept}
+use Rattle.following.proofs.WordWalk.{last-or}
 use Rattle.following.specs.Followed.{cell-of, KnownCells, Follows}
 use Rattle.levels.specs.Levels.{SameCell, LevelCleared, RuleAdded}
 
@@ -73,12 +71,7 @@ module _ (j left : ℕ) (s u : List ℕ) (f : LevelCleared j left s u) (size : l
 
   -- the job itself, or one before it
   own-or : {A : Type 0} (i : ℕ) → i < j + 1 → (i ≡ j → A) → (i < j → (cell-of i left ≡ c → ⊥) → A) → A
-  own-or i h x y =
-      by-test (eqb i j) (λ e. x (eqb-true i j e))
-      (λ e. let n = eqb-false i j e in y (less i j h n) (job-apart i j left n))
-    where
-      less : (i j : ℕ) → i < j + 1 → (i ≡ j → ⊥) → i < j
-      less i j h n = by-test (ltb i j) (λ e. ltb-true i j e) (λ e. absurd (n (omega (arith, ltb-false i j e))))
+  own-or i h x y = last-or i j (omega (arith, h)) (λ l. y l (job-apart i j left (λ e. omega (arith, l, e)))) x
 
   pub cleared-more : LevelCleared (j + 1) left s after
   cleared-more = record {

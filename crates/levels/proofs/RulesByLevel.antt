@@ -6,18 +6,19 @@ use mathlib.Core.Logic.{_↔_, _⊎_, inl, inr, ⊎-elim, ⊎-map}
 use Prim.Native.Nat.{ℕ, suc, _+_, _-_, _≤_, _<_}
 use native.Mathlib.Omega.{arith}
 use native.Mathlib.Nat.{le-of-lt}
-use lib.Dec.{eqb, ltb}
+use lib.Dec.{eqb}
 use lib.ListN.{length, getD}
-use borrow.Author.Tests.{eqb-true, eqb-false, ltb-true, ltb-false}
+use borrow.Author.Tests.{eqb-true, eqb-false}
 use Rattle.bpa.specs.Plans.{Table, over}
 use Rattle.bpa.proofs.Basics.Cases.{by-test}
 use Rattle.rules.specs.Places.{rule-at, rule-count, table-of}
 use Rattle.rules.specs.Lists.{GoodList}
-use Rattle.rules.proofs.ListLaws.{good-rule, rule-of, place-of-rule}
+use Rattle.rules.proofs.ListLaws.{rule-of, place-of-rule, table-closed}
 use Rattle.replay.specs.Ends.{last, Ends, Gets}
 use Rattle.replay.proofs.EndsLaws.{last-rest, last-more, length-last, no-log-ends, ends-rule, gets-rule, rule-ends, rule-gets, gets-all, gets-few}
 use Rattle.reach.specs.Reaches.{CellReaches}
 use Rattle.reach.proofs.ReachLaws.{reaches-none, reaches-joined, reaches-as}
+use Rattle.following.proofs.WordWalk.{last-or}
 use Rattle.following.specs.Followed.{cell-of, KnownCells}
 use Rattle.levels.specs.Levels.{LevelCleared, RuleAdded, RuleFor, EndsBy, GetsBy, LevelBy}
 use Rattle.levels.proofs.CellChanges.{level-apart, job-apart, same-reaches, known-kept}
@@ -34,14 +35,9 @@ module _ (n : ℕ) (rs : List ℕ) (good : GoodList n rs) where
   own-jobs = refl
 
   row-over : (i : ℕ) → i < rule-count rs → over t (rule-at rs i .after) ≡ true
-  unfolding over table-of
-  row-over i h = good-rule n rs good i h .after
+  row-over i h = table-closed n rs good _ _ _ (rule-of n rs i h)
 
   module _ (log : List ℕ) (d a : ℕ) where
-    -- the first rules, and the next one
-    last-or : {A : Type 0} (k i : ℕ) → k < i + 1 → (k < i → A) → (k ≡ i → A) → A
-    last-or k i h x y = by-test (ltb k i) (λ e. x (ltb-true k i e)) (λ e. y (omega (arith, ltb-false k i e)))
-
     -- a rule that is not for the job and the move adds nothing
     module _ (i j : ℕ) (no-rule : RuleFor rs j a i → ⊥) where
       ends-passed : (e : ℕ) → EndsBy t rs log d a i j e ↔ EndsBy t rs log d a (i + 1) j e
@@ -49,7 +45,7 @@ module _ (n : ℕ) (rs : List ℕ) (good : GoodList n rs) where
         (λ w. let (k, h, f, m) = w in (k, omega (arith, h), f, m)),
         (λ w.
             let (k, h, f, m) = w in
-            last-or k i h (λ l. (k, l, f, m)) (λ l. absurd (no-rule (subst (RuleFor rs j a) l f)))),
+            last-or k i (omega (arith, h)) (λ l. (k, l, f, m)) (λ l. absurd (no-rule (subst (RuleFor rs j a) l f)))),
       )
 
       gets-passed : (e : ℕ) → GetsBy t rs log d a i j e ↔ GetsBy t rs log d a (i + 1) j e
@@ -59,7 +55,7 @@ module _ (n : ℕ) (rs : List ℕ) (good : GoodList n rs) where
             ⊎-map (λ x. x)
             (λ v.
             let (k, h, f, m) = v in
-            last-or k i h (λ l. (k, l, f, m)) (λ l. absurd (no-rule (subst (RuleFor rs j a) l f)))) w),
+            last-or k i (omega (arith, h)) (λ l. (k, l, f, m)) (λ l. absurd (no-rule (subst (RuleFor rs j a) l f)))) w),
       )
 
     -- one that is adds what its row reaches
@@ -69,7 +65,7 @@ module _ (n : ℕ) (rs : List ℕ) (good : GoodList n rs) where
         (λ w. ⊎-elim (λ v. let (k, h, f, m) = v in (k, omega (arith, h), f, m)) (λ m. (i, omega arith, r, m)) w),
         (λ w.
             let (k, h, f, m) = w in
-            last-or k i h (λ l. inl (k, l, f, m)) (λ l. inr (subst (λ (x : ℕ). Ends t (rule-at rs x .after) (last d log) e) l m))),
+            last-or k i (omega (arith, h)) (λ l. inl (k, l, f, m)) (λ l. inr (subst (λ (x : ℕ). Ends t (rule-at rs x .after) (last d log) e) l m))),
       )
 
       gets-added : (e : ℕ) → (GetsBy t rs log d a i j e ⊎ Gets t (rule-at rs i .after) (last d log) e) ↔ GetsBy t rs log d a (i + 1) j e
@@ -80,7 +76,7 @@ module _ (n : ℕ) (rs : List ℕ) (good : GoodList n rs) where
             ⊎-elim (λ x. inl (inl x))
             (λ v.
             let (k, h, f, m) = v in
-            last-or k i h (λ l. inl (inr (k, l, f, m)))
+            last-or k i (omega (arith, h)) (λ l. inl (inr (k, l, f, m)))
             (λ l. inr (subst (λ (x : ℕ). Gets t (rule-at rs x .after) (last d log) e) l m))) w),
       )
 
@@ -182,7 +178,7 @@ module _ (n : ℕ) (rs : List ℕ) (good : GoodList n rs) where
       }
         where
           fewer : (k d : ℕ) → k ≤ suc d → (k ≡ suc d → ⊥) → k ≤ d
-          fewer k d h n = by-test (ltb d k) (λ e. absurd (n (omega (arith, ltb-true d k e)))) (λ e. ltb-false d k e)
+          fewer k d h n = last-or k (suc d) (omega arith) (λ l. omega (arith, l)) (λ e. absurd (n e))
 
   -- THE FIRST LEVEL: with no move left nothing is reached
   pub level-first : (log s u : List ℕ) → length log ≤ 128 → LevelCleared n 0 s u → KnownCells t log 0 u

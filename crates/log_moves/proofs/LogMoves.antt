@@ -6,7 +6,7 @@ use Prim.Native.Nat.{ℕ, zero, suc, _+_, _-_, _*_, _/_, _%_, _≤_, _<_}
 use native.Mathlib.Numerals.{add-one}
 use native.Mathlib.Omega.{arith}
 use lib.Dec.{ltb, eqb}
-use lib.ListN.{length, getD, take, drop, set, replicate, length-set, length-replicate}
+use lib.ListN.{length, getD, take, drop, set, replicate, length-set, length-replicate, length-map}
 use lib.Seq.{take-suc, take-all, take-suc-set, drop-drop}
 use borrow.Author.Tests.{eqb-true, eq-eqb, ltb-true, ltb-false, lt-ltb, le-ltb}
 use Rattle.area.specs.Numbers.{number-at, numbers-in}
@@ -24,10 +24,6 @@ length-moves (x ∷ []) = refl
 length-moves (x ∷ y ∷ bs) = let h = length-moves bs in omega arith
 
 module _ (f : ℕ → ℕ) where
-  length-mapped : (vs : List ℕ) → length (map f vs) ≡ length vs
-  length-mapped [] = refl
-  length-mapped (v ∷ vs) = ap suc (length-mapped vs)
-
   mapped-at : (bs : List ℕ) (k : ℕ) → k < length bs / 2 → getD (map f (numbers-in bs)) k 0 ≡ f (number-at (2 * k) bs)
   unfolding numbers-in number-at
   mapped-at [] k h = absurd (omega arith)
@@ -40,7 +36,7 @@ module _ (f : ℕ → ℕ) where
 module _ (ls bs : List ℕ) where
   pub length-counted : length (counted-log ls bs) ≡ length bs / 2
   unfolding counted-log log-moves
-  length-counted = length-mapped (replace (alike-pairs ls)) (numbers-in bs) ∙ length-moves bs
+  length-counted = length-map (numbers-in bs) (replace (alike-pairs ls)) ∙ length-moves bs
 
   counted-at : (k : ℕ) → k < length bs / 2 → getD (counted-log ls bs) k 0 ≡ replace (alike-pairs ls) (number-at (2 * k) bs)
   unfolding counted-log log-moves

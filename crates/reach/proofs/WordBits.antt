@@ -16,7 +16,7 @@ unfolding bit
 bit-small w k = omega arith
 
 -- NONE
-zero-bit : (k : ℕ) → bit 0 k ≡ 0
+pub zero-bit : (k : ℕ) → bit 0 k ≡ 0
 unfolding bit
 zero-bit k = ap (λ (n : ℕ). n % 2) (zero-div (2 ^ k))
 

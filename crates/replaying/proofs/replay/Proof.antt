@@ -2,9 +2,8 @@
 use mathlib.Core.Path.{_≡_, sym, _∙_, subst}
 use mathlib.Core.Bool.{true}
 use mathlib.Core.List.{List}
-use mathlib.Core.Logic.{⊎-elim}
-use Prim.Native.Nat.{ℕ, _<_}
-use native.Mathlib.Nat.{eq-zero-or-pos}
+use Prim.Native.Nat.{ℕ}
+use native.Mathlib.Nat.{pos-of-ne-zero}
 use native.Mathlib.Omega.{arith}
 use lib.ListN.{length, take}
 use lib.Seq.{length-take-le}
@@ -31,9 +30,6 @@ module _ (s : tie.Start) where
   unfolding over table-of
   over-table = s .pre .0 .2
 
-positive : (n : ℕ) → (n ≡ 0 → ⊥) → 0 < n
-positive n f = ⊎-elim (λ (z : n ≡ 0). absurd (f z)) (λ h. h) (eq-zero-or-pos n)
-
 returns : tie.Need-returns
 returns c =
     let s = c .before .before .before .before .before in
@@ -43,13 +39,13 @@ returns-2 : tie.Need-returns-2
 returns-2 c =
     let s = c .before .before .before .before .before in
     let n : s .args .count ≡ 0 → ⊥ = c .if2 .left in
-    empty-stops (t s) (s .args .plan .now) (log s) (c .before .if1 .taken) (positive (length (log s)) (λ z. n (sym (moves s) ∙ z)))
+    empty-stops (t s) (s .args .plan .now) (log s) (c .before .if1 .taken) (pos-of-ne-zero (λ z. n (sym (moves s) ∙ z)))
 
 follow-requires : tie.Need-follow-requires
 follow-requires c κs =
     let f = c .before .before .before in
     let s = f .before .before .before .before .before .before in
-    ((f .fill .ensures .size ∙ s .pre .0 .0, below-more (s .args .jobs) 24 (s .args .plan .now) (s .pre .0 .1 .jobs) (s .pre .0 .2)), (positive (length (s .args .plan .now)) (f .before .before .if1 .left), s .pre .1 .1))
+    ((f .fill .ensures .size ∙ s .pre .0 .0, below-more (s .args .jobs) 24 (s .args .plan .now) (s .pre .0 .1 .jobs) (s .pre .0 .2)), (pos-of-ne-zero (f .before .before .if1 .left), s .pre .1 .1))
 
 -- what the plan reaches
 module _ (c : tie.After-follow) where
