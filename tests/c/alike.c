@@ -757,14 +757,7 @@ static void first_defect_answered(int refusal, int set)
 /* For every image and every set of defects, the one that comes first in the order is answered. */
 static void order_of_refusals(void)
 {
-    for (int refusal = 0; refusal < 8; refusal++) {
-        if (refusal == 1)
-            continue;
-        use_image_refused(refusal);
-        for (int set = 0; set < SETS; set++)
-            if (!small_run() || (of_two_or_fewer(set) && (refusal < 3 || refusal == 7)))
-                first_defect_answered(refusal, set);
-    }
+    every_defect(SETS, first_defect_answered);
 }
 
 /* Damaged images and random lists: the image's refusal, then the list's, then that of a plan. */

@@ -135,5 +135,6 @@ enum { SHORT_SPACE = 1, HALF_PAIR = 2, MANY_PAIRS = 4, CLASH = 8, NO_JOB = 16, H
 int first_refusal(int image_refusal, int set);
 int of_two_or_fewer(int set);
 void list_with(int set);         /* a list with the set's defects comes into force */
+void every_defect(int sets, void (*answered)(int refusal, int set)); /* for an image of each refusal and of none, and every set of defects */
 
 #endif

@@ -477,3 +477,15 @@ void list_with(int set)
     if (set & HALF_PAIR)
         list_len -= 2;
 }
+
+void every_defect(int sets, void (*answered)(int refusal, int set))
+{
+    for (int refusal = 0; refusal < 8; refusal++) {
+        if (refusal == 1)
+            continue;
+        use_image_refused(refusal);
+        for (int set = 0; set < sets; set++)
+            if (!small_run() || (of_two_or_fewer(set) && (refusal < 3 || refusal == 7)))
+                answered(refusal, set);
+    }
+}
