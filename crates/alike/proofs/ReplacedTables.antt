@@ -48,11 +48,11 @@ module _ (ps : List Pair) where
     over-replaced p = refl
 
     -- the rules
-    rule-replaced : (j a : ℕ) (w : List ℕ) → HasRule t j a w → HasRule (replaced ps t) j (replace ps a) w
+    pub rule-replaced : (j a : ℕ) (w : List ℕ) → HasRule t j a w → HasRule (replaced ps t) j (replace ps a) w
     unfolding replaced replaced-rule
     rule-replaced j a w m = Memᴰ·map (replaced-rule ps) m
 
-    rule-raw : (j b : ℕ) (w : List ℕ) → HasRule (replaced ps t) j b w → (a : ℕ) × HasRule t j a w × (replace ps a ≡ b)
+    pub rule-raw : (j b : ℕ) (w : List ℕ) → HasRule (replaced ps t) j b w → (a : ℕ) × HasRule t j a w × (replace ps a ≡ b)
     unfolding replaced replaced-rule
     rule-raw j b w m =
         let (r, k, e) = Memᴰ·of-map (replaced-rule ps) (t .rules) m in

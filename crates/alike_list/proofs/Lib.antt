@@ -5,6 +5,3 @@ pub mod FilledRows
 pub mod CountedMoves
 pub mod ReadPairs
 pub mod ListRefusals
-pub mod ReplacedPlaces
-pub mod NoList
-pub mod ListSources

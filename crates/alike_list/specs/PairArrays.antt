@@ -1,11 +1,10 @@
--- The pairs of a list in two arrays of 32 numbers, and places of rules with other moves. Assumes nothing: these are definitions.
+-- The pairs of a list in two arrays of 32 numbers. Assumes nothing: these are definitions.
 use mathlib.Core.Path.{_≡_}
 use mathlib.Core.Bool.{Bool, cond}
 use mathlib.Core.List.{List, [], _∷_, _++_}
-use Prim.Native.Nat.{ℕ, zero, suc, _+_, _*_, _-_, _≤_, _<_}
+use Prim.Native.Nat.{ℕ, _+_, _*_, _-_, _≤_, _<_}
 use lib.Dec.{eqb}
-use lib.ListN.{length, getD, take, drop, replicate}
-use Rattle.rules.specs.Places.{move-in, with-move}
+use lib.ListN.{length, getD, take, replicate}
 use Rattle.alike.specs.Alike.{Pair, replace, froms, tos, stands-in, from-twice, from-as-to}
 use Rattle.alike_list.specs.AlikeLists.{alike-pairs, alike-refusal}
 
@@ -58,8 +57,3 @@ pub record ReadsTos (ps : List Pair) (clash : Bool) (row : List ℕ) : Type 0 wh
   pub as-from : clash ≡ from-as-to ps ps
   pub filled : row ≡ filled-tos ps
   pub small : (k : ℕ) → getD row k 0 < 65536
-
--- SO MANY PLACES, each with the move that its own counts as
-unfoldable pub with-moves : (counts : ℕ → ℕ) → (left : ℕ) → (places : List ℕ) → List ℕ
-with-moves f zero xs = []
-with-moves f (suc k) xs = with-move (f (move-in (take 8 xs))) (take 8 xs) ++ with-moves f k (drop 8 xs)

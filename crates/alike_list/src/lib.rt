@@ -1,23 +1,15 @@
-// Alike lists: their pairs in two arrays, refusals 12 and 13, and the table that a call holds with its moves replaced.
+// Alike lists: their pairs in two arrays, and refusals 12 and 13.
 // The arrays are always full, so that all 32 places are compared at once: behind the last from-move the first one stands again, and behind
 // the last to-move stand zeros.
-use answer::or_else;
 use area::number;
-use rules::move_in;
-use rules::set_move;
 ghost use mathlib.Core.Path.{_≡_};
-ghost use mathlib.Core.List.{List, _++_};
-ghost use Prim.Native.Nat.{ℕ, _+_, _*_, _≤_, _<_};
-ghost use lib.ListN.{length, take, drop};
+ghost use Prim.Native.Nat.{_+_, _<_};
+ghost use lib.ListN.{length, take};
 ghost use Rattle.area.specs.Numbers.{number-at};
-ghost use Rattle.bpa.specs.Plans.{Table};
-ghost use Rattle.answer.specs.Refusals as refusals;
-ghost use Rattle.rules.specs.Places.{move-in, with-move};
 ghost use Rattle.rules.specs.Lists.{IsMove};
-ghost use Rattle.table.specs.Tables.{Loads};
-ghost use Rattle.alike.specs.Alike.{replaced, stands-in};
-ghost use Rattle.alike_list.specs.AlikeLists.{alike-pairs, alike-refusal};
-ghost use Rattle.alike_list.specs.PairArrays.{WholePairs, filled-froms, sum-at, counts-as, MoveArrays, ReadsList, ReadsFroms, ReadsTos, with-moves};
+ghost use Rattle.alike.specs.Alike.{stands-in};
+ghost use Rattle.alike_list.specs.AlikeLists.{alike-pairs};
+ghost use Rattle.alike_list.specs.PairArrays.{WholePairs, filled-froms, sum-at, MoveArrays, ReadsList, ReadsFroms, ReadsTos};
 
 // The from-moves or the to-moves of a list, and whether one of them clashes.
 pub struct Moves {
@@ -42,7 +34,7 @@ pub fn move_at(list: &[u8], at: usize) -> u16
 }
 
 // Whether a move stands in a row. All places are looked at, so that they are compared at once.
-fn stands(row: &[u16; 32], action: u16) -> bool
+pub fn stands(row: &[u16; 32], action: u16) -> bool
     requires { ⌜ length (now row) ≡ 32 ⌝ }
     ensures { λ r. ⌜ r ≡ stands-in (now (row .entry)) action ⌝ }
 {
@@ -59,7 +51,7 @@ fn stands(row: &[u16; 32], action: u16) -> bool
 
 // The to-move of a from-move, as the sum over the places up to an end: at one place only there is anything to add. Without a branch, so that
 // the places are added up at once.
-fn to_move(froms: &[u16; 32], tos: &[u16; 32], end: usize, action: u16) -> u16
+pub fn to_move(froms: &[u16; 32], tos: &[u16; 32], end: usize, action: u16) -> u16
     requires { ⌜ MoveArrays (now froms) (now tos) end ⌝ }
     ensures { λ r. ⌜ r ≡ sum-at (take end (now (froms .entry))) (take end (now (tos .entry))) action ⌝ }
 {
@@ -120,7 +112,7 @@ fn to_moves(list: &[u8], count: usize, froms: &[u16; 32]) -> Moves
 }
 
 // The pairs of a list that is not empty, or refusal 12 or 13.
-fn read_list(list: &[u8]) -> Pairs
+pub fn read_list(list: &[u8]) -> Pairs
     requires { ⌜ 0 < length (now list) ⌝ }
     ensures { λ r. ⌜ ReadsList (now (list .entry)) (r .refusal) (r .froms) (r .tos) (r .end) ⌝ }
 {
@@ -148,50 +140,4 @@ fn read_list(list: &[u8]) -> Pairs
         froms: froms,
         tos: tos,
     }
-}
-
-// Replaces the move of a place.
-fn replace_move(place: &mut [u8], froms: &[u16; 32], tos: &[u16; 32], end: usize)
-    requires { ⌜ length (now place) ≡ 8 ⌝ }
-    requires { ⌜ MoveArrays (now froms) (now tos) end ⌝ }
-    ensures { λ _. ⌜ now (place .exit) ≡ with-move (counts-as (now (froms .entry)) (now (tos .entry)) end (move-in (now (place .entry)))) (now (place .entry)) ⌝ }
-{
-    let action = move_in(place);
-    if stands(froms, action) {
-        set_move(place, to_move(froms, tos, end, action));
-    }
-}
-
-// Replaces the moves of so many places.
-fn replace_moves(rules: &mut [u8], count: usize, froms: &[u16; 32], tos: &[u16; 32], end: usize)
-    requires { ⌜ 8 * count ≤ length (now rules) ⌝ }
-    requires { ⌜ MoveArrays (now froms) (now tos) end ⌝ }
-    ensures { λ _. ⌜ now (rules .exit) ≡ with-moves (counts-as (now (froms .entry)) (now (tos .entry)) end) count (now (rules .entry)) ++ drop (8 * count) (now (rules .entry)) ⌝ }
-{
-    let mut i = 0;
-    while i < count {
-        let start = 8 * i;
-        let next = start + 8;
-        replace_move(&mut rules[start..next], froms, tos, end);
-        i += 1;
-    }
-}
-
-// A table under a list, whatever it comes from: refusals 12 and 13 come after its own, and once none is met its moves are replaced.
-pub fn replace(refusal: u8, end: usize, rules: &mut [u8; 2016], list: &[u8]) -> u8
-    requires { ⌜ (end ≤ 2016) × (length (now rules) ≡ 2016) ⌝ }
-    ensures { λ r. ⌜ ((f : ℕ) (t : Table) (jobs : ℕ) (ns : List ℕ) → Loads f t refusal jobs end (now (rules .entry)) ns →
-        Loads (refusals.or-else f (alike-refusal (now (list .entry)))) (replaced (alike-pairs (now (list .entry))) t) r jobs end (now (rules .exit)) ns) ⌝ }
-{
-    if list.len() == 0 {
-        return refusal;
-    }
-    let pairs = read_list(list);
-    let both = or_else(refusal, pairs.refusal);
-    if both == 0 {
-        let froms = pairs.froms;
-        let tos = pairs.tos;
-        replace_moves(rules, end / 8, &froms, &tos, pairs.end);
-    }
-    both
 }

@@ -4,6 +4,7 @@ ghost use Rattle.images.specs.ImageCalls.{Read, Written};
 ghost use Rattle.plans.specs.PlanCalls.{Normed, Moved, RanFirst};
 ghost use Rattle.sameness.specs.SamenessCalls.{Compared, Formed, ComparedAlike, FormedAlike};
 ghost use Rattle.logs.specs.LogCalls.{Replayed};
+ghost use Rattle.outcomes.specs.OutcomeCalls.{Determined};
 
 // The table of an image: the job count in one byte, then the rules, 8 bytes each.
 #[no_mangle]
@@ -111,4 +112,12 @@ pub extern "C" fn gindrazoma_replay_log(
     ensures { λ r. ⌜ Replayed (now (image .entry)) (now (alike .entry)) (now (plan .entry)) (now (log .entry)) (now (space .entry)) r (now (space .exit)) ⌝ }
 {
     logs::replay_log(image, alike, plan, log, space)
+}
+
+// Whether a table under an alike list has no choice of outcome: 1 for yes, 0 for no.
+#[no_mangle]
+pub extern "C" fn gindrazoma_deterministic(image: &[u8], alike: &[u8]) -> i32
+    ensures { λ r. ⌜ Determined (now (image .entry)) (now (alike .entry)) r ⌝ }
+{
+    outcomes::deterministic(image, alike)
 }

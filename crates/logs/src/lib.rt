@@ -10,7 +10,7 @@ fn replay_in(image: &[u8], alike: &[u8], plan: &[u8], log: &[u8], space: &mut [u
     let mut table = table::load(image);
     let own = table.refusal;
     let end = table.end;
-    let of_table = alike_list::replace(own, end, &mut table.rules, alike);
+    let of_table = replacing::replace(own, end, &mut table.rules, alike);
     let norms = table.norms;
     let of_plan = refusal::plan_refusal(table.jobs, &norms, plan);
     let of_log = log_moves::refusal(log);

@@ -21,7 +21,7 @@ plans-equal (x ∷ xs) (y ∷ ys) e =
     ap₂ _∷_ (eqb-true x y (and-left (eqb x y) (equal-plans xs ys) e))
     (plans-equal xs ys (and-right (eqb x y) (equal-plans xs ys) e))
 
-equal-self : (p : List ℕ) → equal-plans p p ≡ true
+pub equal-self : (p : List ℕ) → equal-plans p p ≡ true
 unfolding equal-plans
 equal-self [] = refl
 equal-self (x ∷ xs) = and-both (eqb x x) (equal-plans xs xs) (eq-eqb x x refl) (equal-self xs)

@@ -7,6 +7,7 @@ use Rattle.promises.proofs.Remainders as remainders
 use Rattle.promises.proofs.FirstRuns as firstruns
 use Rattle.promises.proofs.AlikeLists as alikelists
 use Rattle.promises.proofs.LogReplays as logreplays
+use Rattle.promises.proofs.Outcomes as outcomes
 use Rattle.promises.proofs.WorkedCases as workedcases
 
 pub every-promise : EveryPromise
@@ -115,6 +116,20 @@ every-promise = record {
   replay-place = logreplays.replay-place;
   replay-small = logreplays.replay-small;
   no-list-replayed = logreplays.no-list-replayed;
+  choice-exactly = outcomes.choice-exactly;
+  alike-choice-exactly = outcomes.alike-choice-exactly;
+  steps-single = outcomes.steps-single;
+  choice-reordered = outcomes.choice-reordered;
+  runs-stay = outcomes.runs-stay;
+  same-by-runs = outcomes.same-by-runs;
+  run-tells = outcomes.run-tells;
+  alike-runs-stay = outcomes.alike-runs-stay;
+  alike-same-by-runs = outcomes.alike-same-by-runs;
+  alike-run-tells = outcomes.alike-run-tells;
+  outcomes-told = outcomes.outcomes-told;
+  compared-by-runs = outcomes.compared-by-runs;
+  compared-runs-stay = outcomes.compared-runs-stay;
+  no-list-determined = outcomes.no-list-determined;
   rows-normed = remainders.rows-normed;
   remainders-normed = remainders.remainders-normed;
   unequal-norms = remainders.unequal-norms;

@@ -9,6 +9,7 @@ pub mod SourceCalls
 pub mod Calls
 pub mod AlikeLists
 pub mod LogReplays
+pub mod Outcomes
 pub mod BothAges
 pub mod Remainders
 pub mod FirstRuns

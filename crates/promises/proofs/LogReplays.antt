@@ -25,7 +25,7 @@ use Rattle.alike.specs.Alike.{replace, replaced}
 use Rattle.alike.proofs.ReplacedRuns.{runs-replaced, runs-raw}
 use Rattle.alike_list.specs.AlikeLists.{pairs-in, pair-count, alike-pairs}
 use Rattle.alike_list.specs.AlikeTables.{alike-table, listed-refusal, one-plan-alike}
-use Rattle.alike_list.proofs.NoList.{no-replacement, one-plan-none}
+use Rattle.replacing.proofs.NoList.{no-replacement, one-plan-none}
 use Rattle.replay.specs.Replay.{Begins, after-move, by-move, none-left, one-empty, replay-from, replay}
 use Rattle.replay.proofs.ReplayMeaning as meaning
 use Rattle.log_moves.specs.Logs.{log-moves, counted-log, log-refusal}

@@ -1,7 +1,7 @@
 -- What the calls about sameness tell, for every source of tables: f is the refusal of the source and t its table, which is accepted once it passes.
 -- An image is one source, an image under an alike list another. Assumes nothing.
 use mathlib.Core.Path.{_≡_, sym, ap, subst, _∙_}
-use mathlib.Core.Bool.{true}
+use mathlib.Core.Bool.{Bool, true}
 use mathlib.Core.List.{List, [], _∷_, List·Memᴰ}
 use mathlib.Core.Logic.{_↔_}
 use Prim.Native.Nat.{ℕ, _≤_, _<_}
@@ -23,6 +23,16 @@ use Rattle.refusal.specs.Refusals.{plan-refusal, plans-refusal, Accepted, Accep
 use Rattle.refusal.proofs.PlanRefusals.{accepted-plan, accepted-plans, job-passed}
 use Rattle.workspace.proofs.UsablePart.{long-passes}
 
+-- a number for yes or no, and what yes means exactly
+pub told-exactly : (b : Bool) (n : ℕ) {X : Type 0} → n ≡ one-if b → (b ≡ true) ↔ X → ((n ≡ 1) ↔ X) × ((n ≡ 0) ↔ (X → ⊥))
+told-exactly b n v exact = (
+  ((λ e. exact .0 (one-yes b .0 (sym v ∙ e))), (λ x. v ∙ one-yes b .1 (exact .1 x))),
+  (
+    (λ e x. never-both b (exact .1 x) (one-no b .0 (sym v ∙ e))),
+    (λ none. v ∙ one-no b .1 (by-test b (λ e. absurd (none (exact .0 e))) (λ e. e))),
+  ),
+)
+
 module _ (f : ℕ) (t : Table) (source : f ≡ 0 → Accepted t) where
   -- the refusals of a call about one plan and about two, and what the calls answer
   abbrev one : (plan : List ℕ) → ℕ
@@ -37,22 +47,19 @@ module _ (f : ℕ) (t : Table) (source : f ≡ 0 → Accepted t) where
   abbrev Wrote : (plan out space : List ℕ) → ℤ → (out′ space′ : List ℕ) → Type 0
   Wrote p o s r o′ s′ = WritesWithSpace (one p) (prime-form t p) o s r o′ s′
 
-  pub answer-tells : (p q s s′ : List ℕ) (n : ℕ) → Told p q s (pos n) s′ →
-      ((n ≡ 1) ↔ Bisimilar t p q) × ((n ≡ 0) ↔ (Bisimilar t p q → ⊥))
-  answer-tells p q s s′ n w =
+  -- a comparison that gives back a number was not refused
+  pub answer-given : (p q s s′ : List ℕ) (n : ℕ) → Told p q s (pos n) s′ → Accepted t × AcceptedPlan t p × AcceptedPlan t q × (n ≡ one-if (same t p q))
+  answer-given p q s s′ n w =
       let (z, v) = result-is (with-space s (two p q)) (one-if (same t p q)) n (w .answer) in
       let (i, k) = neither f (plans-refusal t p q) (neither (space-refusal s) (two p q) z .1) in
       let (a, c) = accepted-plans t p q k in
-      let exact : (same t p q ≡ true) ↔ Bisimilar t p q = same-exact t (source i .good) p q (a .over-table) (c .over-table) in (
-        (
-          (λ e. exact .0 (one-yes (same t p q) .0 (sym v ∙ e))),
-          (λ e. v ∙ one-yes (same t p q) .1 (exact .1 e)),
-        ),
-        (
-          (λ e d. never-both (same t p q) (exact .1 d) (one-no (same t p q) .0 (sym v ∙ e))),
-          (λ d. v ∙ one-no (same t p q) .1 (by-test (same t p q) (λ e. absurd (d (exact .0 e))) (λ e. e))),
-        ),
-      )
+      (source i, a, c, v)
+
+  pub answer-tells : (p q s s′ : List ℕ) (n : ℕ) → Told p q s (pos n) s′ →
+      ((n ≡ 1) ↔ Bisimilar t p q) × ((n ≡ 0) ↔ (Bisimilar t p q → ⊥))
+  answer-tells p q s s′ n w =
+      let (k, a, c, v) = answer-given p q s s′ n w in
+      told-exactly (same t p q) n v (same-exact t (k .good) p q (a .over-table) (c .over-table))
 
   accepted : (p : List ℕ) → one p ≡ 0 → Accepted t × AcceptedPlan t p
   accepted p h = let (i, k) = neither f (plan-refusal t p) h in (source i, accepted-plan t p k)

@@ -20,6 +20,7 @@ use Rattle.bpa.proofs.Norm.NormExact.{job-norm, job-without}
 use Rattle.bpa.proofs.Answers.{same-exact, form-exists}
 use Rattle.rules.specs.Places.{all-zero, move-in, rule-in, place-good, each-place, places-good, rules-in, rule-count, table-of}
 use Rattle.answer.specs.Refusals.{or-else}
+use Rattle.answer.specs.Answer.{one-if}
 use Rattle.answer.proofs.RefusalChains.{neither, both-pass}
 use Rattle.refusal.specs.Refusals.{any-zero, any-above, norms-refusal, table-refusal, jobs-refusal, sum-refusal, plan-refusal, plans-refusal}
 use Rattle.refusal.proofs.PlanRefusals.{accepted-plan, accepted-plans}
@@ -40,15 +41,18 @@ use Rattle.alike.specs.Alike as alike
 use Rattle.alike.specs.Alike.{replaced-rule, replaced, stands-in, from-twice, from-as-to, clashes}
 use Rattle.alike.proofs.ReplacedTables.{norms-replaced, good-replaced}
 use Rattle.alike_list.specs.AlikeLists.{pairs-in, pair-count, alike-pairs, pairs-refusal, clash-refusal, alike-refusal}
-use Rattle.alike_list.specs.AlikeTables.{two-plans-alike}
+use Rattle.alike_list.specs.AlikeTables.{alike-table, listed-refusal, two-plans-alike}
 use Rattle.table.proofs.ListTables.{list-closed}
 use Rattle.replay.specs.Replay.{by-move, after-move, none-left, one-empty, replay-from, replay}
 use Rattle.log_moves.specs.Logs.{log-moves, counted-log, log-refusal}
 use Rattle.logs.specs.LogCalls.{plan-and-log, replayed}
+use Rattle.deterministic.specs.Deterministic.{is-choice, choice-with, choice-among, no-choice}
+use Rattle.deterministic.specs.CompleteRuns.{SameRuns, by-each, runs-within, each-rest, ends-within, equal-lists, same-runs-within}
+use Rattle.deterministic.proofs.RunsListed.{same-runs-listed}
 use Rattle.promises.specs.WorkedCases.{Worked, image-of, read-back, listed, HasNorms, Means, plan-passes, pair-passes, has-form}
 use Rattle.promises.specs.WorkedCases.{listed-under, under-passes, passes, all-pass, cases, Cases-hold}
 use Rattle.promises.specs.WorkedCases.{Case, refusal-is, byte-is, norms-are, pair-refusal-is, are-same, are-apart, form-is, is-prime, move-is, run-is}
-use Rattle.promises.specs.WorkedCases.{alike-refusal-is, same-under, apart-under, log-refusal-is, replay-is, log-passes}
+use Rattle.promises.specs.WorkedCases.{alike-refusal-is, same-under, apart-under, log-refusal-is, replay-is, outcome-is, same-runs-apart, log-passes, list-passes}
 
 -- THE COMPUTED PROOF
 cases-pass : all-pass cases ≡ true
@@ -61,6 +65,7 @@ unfolding all-pass passes has-form plan-passes pair-passes equal-plans same-move
     image-refusal low-first blocks-for rules-for body written-block written-from written list-refusal write-refusal
     earlier earliest runs-by job-run run-of first-run under-passes pairs-in pair-count alike-pairs pairs-refusal clash-refusal alike-refusal
     alike.replace replaced-rule replaced stands-in from-twice from-as-to clashes
+    list-passes one-if is-choice choice-with choice-among no-choice by-each runs-within each-rest ends-within equal-lists same-runs-within
     log-passes log-refusal counted-log log-moves all-low-first numbers-in by-move after-move none-left one-empty replay-from replay
 cases-pass = refl
 
@@ -109,6 +114,10 @@ module _ (w : Worked) where
     unfolding pair-passes
     pair-accepted = both-passed check-pair e
 
+    pair-runs : (n : ℕ) → same-runs-within (listed w) n p q ≡ true → SameRuns (read-back w) p q
+    unfolding pair-passes
+    pair-runs n h = subst (λ (t : Table). SameRuns t p q) (sym (back check-pair e)) (same-runs-listed (listed w) n p q h)
+
     pair-told : (same (listed w) p q ≡ true) ↔ Bisimilar (read-back w) p q
     unfolding pair-passes
     pair-told =
@@ -116,6 +125,13 @@ module _ (w : Worked) where
         let same-back = ap (λ (t : Table). same t p q) (back check-pair e) in
         let exact = same-exact (read-back w) (good check-pair e) p q (a .over-table) (b .over-table) in
         (λ s. exact .0 (same-back ∙ s), λ s. sym same-back ∙ exact .1 s)
+
+  apart-holds : (p q : List ℕ) → (pair-passes w p q && not (same (listed w) p q)) ≡ true →
+      (two-plans (image-of w) p q ≡ 0) × (Bisimilar (read-back w) p q → ⊥)
+  apart-holds p q e =
+      let k = and-left (pair-passes w p q) (not (same (listed w) p q)) e in
+      let no = not-true (same (listed w) p q) (and-right (pair-passes w p q) (not (same (listed w) p q)) e) in
+      (pair-accepted p q k, λ b. never-both (same (listed w) p q) (pair-told p q k .1 b) no)
 
   -- two plans under an alike list
   module _ (ls p q : List ℕ) (e : under-passes ls w p q ≡ true) where
@@ -145,6 +161,22 @@ module _ (w : Worked) where
         (good-replaced (alike-pairs ls) (read-back w) (norms (read-back w)) (good check-under e)) in
         let exact = same-exact u g p q (a .over-table) (b .over-table) in
         (λ s. exact .0 (same-back ∙ s), λ s. sym same-back ∙ exact .1 s)
+
+  -- the table under an alike list
+  module _ (ls : List ℕ) (n : ℕ) (e : (list-passes ls w && eqb (one-if (no-choice (listed-under ls w))) n) ≡ true) where
+    abbrev check-list : Table → ℕ
+    check-list t = alike-refusal ls
+
+    list-passed : eqb (or-else writer (alike-refusal ls)) 0 ≡ true
+    unfolding list-passes
+    list-passed = and-left (list-passes ls w) (eqb (one-if (no-choice (listed-under ls w))) n) e
+
+    outcome-told : (listed-refusal (image-of w) ls ≡ 0) × (one-if (no-choice (alike-table (image-of w) ls)) ≡ n)
+    outcome-told = (
+      both-passed check-list list-passed,
+      ap (λ (t : Table). one-if (no-choice (replaced (alike-pairs ls) t))) (back check-list list-passed)
+          ∙ eqb-true (one-if (no-choice (listed-under ls w))) n (and-right (list-passes ls w) (eqb (one-if (no-choice (listed-under ls w))) n) e),
+    )
 
   -- a log under an alike list
   module _ (ls p g : List ℕ) (e : log-passes ls w p g ≡ true) where
@@ -211,10 +243,7 @@ case-true (pair-refusal-is w p q f) e = eqb-true (two-plans (image-of w) p q) f 
 case-true (are-same w p q) e =
     let k = and-left (pair-passes w p q) (same (listed w) p q) e in
     (pair-accepted w p q k, pair-told w p q k .0 (and-right (pair-passes w p q) (same (listed w) p q) e))
-case-true (are-apart w p q) e =
-    let k = and-left (pair-passes w p q) (not (same (listed w) p q)) e in
-    let no = not-true (same (listed w) p q) (and-right (pair-passes w p q) (not (same (listed w) p q)) e) in
-    (pair-accepted w p q k, λ b. never-both (same (listed w) p q) (pair-told w p q k .1 b) no)
+case-true (are-apart w p q) e = apart-holds w p q e
 case-true (form-is w p f) e = form-holds w p f e
 case-true (is-prime w j) e = form-prime (read-back w) j (form-holds w (j ∷ []) (j ∷ []) e .1)
 case-true (run-is w p run) e = row-holds w p (λ t. first-run t p) run e (λ t. First t p) (λ t g. first-run-first t g p)
@@ -233,6 +262,12 @@ case-true (replay-is ls w p g n) e =
     let r = replay (listed-under ls w) p (counted-log ls g) in
     let k = and-left (log-passes ls w p g) (eqb r n) e in
     (log-accepted w ls p g k, log-told w ls p g k n (eqb-true r n (and-right (log-passes ls w p g) (eqb r n) e)))
+case-true (outcome-is ls w n) e = outcome-told w ls n e
+case-true (same-runs-apart w n p q) e =
+    let apart = pair-passes w p q && not (same (listed w) p q) in
+    let k = and-left apart (same-runs-within (listed w) n p q) e in
+    let (a, b) = apart-holds w p q k in
+    (a, pair-runs w p q (and-left (pair-passes w p q) (not (same (listed w) p q)) k) n (and-right apart (same-runs-within (listed w) n p q) e), b)
 case-true (move-is w p n bs) e =
     let row : Table → List ℕ = λ t. move-bytes (shown t p) n in
     (both-passed w (check-plan w p row bs e) (plan-passed w p row bs e), row-back w p row bs e)

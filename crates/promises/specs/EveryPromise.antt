@@ -7,6 +7,7 @@ use Rattle.promises.specs.Remainders as remainders
 use Rattle.promises.specs.FirstRuns as firstruns
 use Rattle.promises.specs.AlikeLists as alikelists
 use Rattle.promises.specs.LogReplays as logreplays
+use Rattle.promises.specs.Outcomes as outcomes
 use Rattle.promises.specs.WorkedCases as workedcases
 
 pub record EveryPromise : Type 1 where
@@ -126,6 +127,21 @@ pub record EveryPromise : Type 1 where
   pub replay-place : logreplays.Replay-place
   pub replay-small : logreplays.Replay-small
   pub no-list-replayed : logreplays.No-list-replayed
+  -- TABLES WITHOUT A CHOICE OF OUTCOME
+  pub choice-exactly : outcomes.Choice-exactly
+  pub alike-choice-exactly : outcomes.Alike-choice-exactly
+  pub steps-single : outcomes.Steps-single
+  pub choice-reordered : outcomes.Choice-reordered
+  pub runs-stay : outcomes.Runs-stay
+  pub same-by-runs : outcomes.Same-by-runs
+  pub run-tells : outcomes.Run-tells
+  pub alike-runs-stay : outcomes.Alike-runs-stay
+  pub alike-same-by-runs : outcomes.Alike-same-by-runs
+  pub alike-run-tells : outcomes.Alike-run-tells
+  pub outcomes-told : outcomes.Outcomes-told
+  pub compared-by-runs : outcomes.Compared-by-runs
+  pub compared-runs-stay : outcomes.Compared-runs-stay
+  pub no-list-determined : outcomes.No-list-determined
   -- THE NORMS THAT THE ROUNDS LOOK UP
   pub rows-normed : remainders.Rows-normed
   pub remainders-normed : remainders.Remainders-normed

@@ -3,6 +3,7 @@ pub mod Promises
 pub mod Calls
 pub mod AlikeLists
 pub mod LogReplays
+pub mod Outcomes
 pub mod BothAges
 pub mod Remainders
 pub mod FirstRuns

@@ -1,5 +1,5 @@
 -- The worked tables of document 01 marked P, two of them from 000, one whose moves need two bytes, one with a choice written again and again, and
--- one with several shortest runs, in two orders; alike lists, and logs: one list of cases, what each
+-- one with several shortest runs, in two orders; alike lists, logs, and choices of outcome: one list of cases, what each
 -- means, and one test over them.
 -- The test computes on the rules of a table; the meaning is of the image that is written from them. Assumes nothing: these are
 -- definitions.
@@ -16,6 +16,7 @@ use Rattle.bpa.specs.Bisimilar.{Bisimilar, Prime, Form}
 use Rattle.bpa.specs.Method.{same, prime-form}
 use Rattle.rules.specs.Places.{table-of}
 use Rattle.answer.specs.Refusals.{or-else}
+use Rattle.answer.specs.Answer.{one-if}
 use Rattle.refusal.specs.Refusals.{plan-refusal, plans-refusal}
 use Rattle.image.specs.Image.{table-in, image-refusal}
 use Rattle.image.specs.Writing.{written, list-refusal, write-refusal}
@@ -25,10 +26,12 @@ use Rattle.first_run.specs.FirstRun.{First, first-run}
 use Rattle.table.specs.CallRefusals.{one-plan, two-plans}
 use Rattle.alike.specs.Alike.{replaced}
 use Rattle.alike_list.specs.AlikeLists.{alike-pairs, alike-refusal}
-use Rattle.alike_list.specs.AlikeTables.{alike-table, two-plans-alike}
+use Rattle.alike_list.specs.AlikeTables.{alike-table, listed-refusal, two-plans-alike}
 use Rattle.replay.specs.Replay.{replay}
 use Rattle.log_moves.specs.Logs.{counted-log, log-refusal}
 use Rattle.logs.specs.LogCalls.{plan-and-log, replayed}
+use Rattle.deterministic.specs.Deterministic.{no-choice}
+use Rattle.deterministic.specs.CompleteRuns.{SameRuns, same-runs-within}
 
 -- A WORKED TABLE: a job count, and the rules as 8-byte places in a row
 pub record Worked : Type 0 where
@@ -67,6 +70,10 @@ pub data Case : Type 0 where
   -- what a log is refused by, and what one comes to on a plan under an alike list
   log-refusal-is : (log : List ℕ) (refusal : ℕ) → Case
   replay-is : (list : List ℕ) (w : Worked) (plan log : List ℕ) (answer : ℕ) → Case
+  -- 1 if a table under an alike list has no choice of outcome, else 0
+  outcome-is : (list : List ℕ) (w : Worked) (answer : ℕ) → Case
+  -- two plans that are apart and allow the same complete runs, none of which has more moves than so many
+  same-runs-apart : (w : Worked) (most : ℕ) (left right : List ℕ) → Case
 
 -- a job of norm 0 has no run to its end
 abbrev pub HasNorms : Table → (jobs : ℕ) → (by-job : List ℕ) → Type 0
@@ -90,6 +97,9 @@ Means (same-under ls w p q) = (two-plans-alike (image-of w) ls p q ≡ 0) × Bis
 Means (apart-under ls w p q) = (two-plans-alike (image-of w) ls p q ≡ 0) × (Bisimilar (alike-table (image-of w) ls) p q → ⊥)
 Means (log-refusal-is g f) = log-refusal g ≡ f
 Means (replay-is ls w p g n) = (plan-and-log (image-of w) ls p g ≡ 0) × (replayed (image-of w) ls p g ≡ n)
+Means (outcome-is ls w n) = (listed-refusal (image-of w) ls ≡ 0) × (one-if (no-choice (alike-table (image-of w) ls)) ≡ n)
+Means (same-runs-apart w n p q) =
+    (two-plans (image-of w) p q ≡ 0) × SameRuns (read-back w) p q × (Bisimilar (read-back w) p q → ⊥)
 
 -- THE TEST
 -- no refusal meets the list and the plans
@@ -111,6 +121,9 @@ unfoldable pub log-passes : (list : List ℕ) → (w : Worked) → (p g : List �
 log-passes ls w p g =
     eqb (or-else (write-refusal (w .jobs) (w .rules)) (or-else (alike-refusal ls) (or-else (plan-refusal (listed-under ls w) p) (log-refusal g)))) 0
 
+unfoldable pub list-passes : (list : List ℕ) → (w : Worked) → Bool
+list-passes ls w = eqb (or-else (write-refusal (w .jobs) (w .rules)) (alike-refusal ls)) 0
+
 unfoldable pub has-form : (w : Worked) → (p f : List ℕ) → Bool
 has-form w p f = plan-passes w p && equal-plans (prime-form (listed w) p) f
 
@@ -130,6 +143,8 @@ passes (same-under ls w p q) = under-passes ls w p q && same (listed-under ls w)
 passes (apart-under ls w p q) = under-passes ls w p q && not (same (listed-under ls w) p q)
 passes (log-refusal-is g f) = eqb (log-refusal g) f
 passes (replay-is ls w p g n) = log-passes ls w p g && eqb (replay (listed-under ls w) p (counted-log ls g)) n
+passes (outcome-is ls w n) = list-passes ls w && eqb (one-if (no-choice (listed-under ls w))) n
+passes (same-runs-apart w n p q) = (pair-passes w p q && not (same (listed w) p q)) && same-runs-within (listed w) n p q
 
 unfoldable pub all-pass : List Case → Bool
 all-pass [] = true
@@ -259,7 +274,11 @@ cases =
     replay-is [] late-choice (2 ∷ []) (log (97 ∷ 97 ∷ [])) 3 ∷ replay-is [] growing (0 ∷ []) (log (97 ∷ 97 ∷ 97 ∷ 98 ∷ 98 ∷ 98 ∷ [])) 1 ∷
     replay-is [] larger-moves (0 ∷ []) (log (1000 ∷ [])) 1 ∷ replay-is [] larger-moves (0 ∷ []) (log (232 ∷ [])) 2 ∷
     replay-is [] table-t (3 ∷ []) (log (97 ∷ 97 ∷ [])) 2 ∷ replay-is (pair 98 97) table-t (3 ∷ []) (log (97 ∷ 97 ∷ [])) 1 ∷
-    replay-is (pair 98 97) table-t (1 ∷ []) (log (98 ∷ 97 ∷ [])) 1 ∷ []
+    replay-is (pair 98 97) table-t (1 ∷ []) (log (98 ∷ 97 ∷ [])) 1 ∷
+    outcome-is [] table-t 1 ∷ outcome-is [] late-choice 0 ∷ outcome-is [] growing 1 ∷ outcome-is (pair 98 97) growing 0 ∷
+    outcome-is [] twice-at-one 1 ∷ outcome-is [] back-or-done 0 ∷ outcome-is [] larger-moves 1 ∷
+    outcome-is (232 ∷ 3 ∷ 232 ∷ 0 ∷ []) larger-moves 1 ∷ outcome-is [] choice-repeated 0 ∷ outcome-is (pair 99 98) late-choice 0 ∷
+    same-runs-apart late-choice 2 (0 ∷ []) (2 ∷ []) ∷ []
 
 -- EVERY CASE IS TRUE
 unfoldable pub Cases-hold : Type 0

@@ -10,7 +10,7 @@ use Rattle.answer.specs.Answer.{one-if, GivesWithSpace, WritesWithSpace}
 use Rattle.image.specs.Image.{table-in}
 use Rattle.table.specs.CallRefusals.{one-plan, two-plans}
 use Rattle.alike_list.specs.AlikeTables.{alike-table, one-plan-alike, two-plans-alike}
-use Rattle.alike_list.proofs.NoList.{no-replacement, one-plan-none, two-plans-none}
+use Rattle.replacing.proofs.NoList.{no-replacement, one-plan-none, two-plans-none}
 use Rattle.sameness.specs.SamenessCalls.{Compared, Formed, ComparedAlike, FormedAlike}
 
 pub compared-none : (bs p q s : List ℕ) (r : ℤ) (s′ : List ℕ) → ComparedAlike bs [] p q s r s′ ↔ Compared bs p q s r s′

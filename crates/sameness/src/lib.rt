@@ -10,7 +10,7 @@ fn compare_in(image: &[u8], alike: &[u8], left: &[u8], right: &[u8], space: &mut
     let mut table = table::load(image);
     let own = table.refusal;
     let end = table.end;
-    let of_table = alike_list::replace(own, end, &mut table.rules, alike);
+    let of_table = replacing::replace(own, end, &mut table.rules, alike);
     let norms = table.norms;
     let of_plans = refusal::plans_refusal(table.jobs, &norms, left, right);
     let refusal = or_else(workspace::refusal(space), or_else(of_table, of_plans));
@@ -49,7 +49,7 @@ fn form_in(image: &[u8], alike: &[u8], plan: &[u8], out: &mut [u8], space: &mut 
     let mut table = table::load(image);
     let own = table.refusal;
     let end = table.end;
-    let of_table = alike_list::replace(own, end, &mut table.rules, alike);
+    let of_table = replacing::replace(own, end, &mut table.rules, alike);
     let norms = table.norms;
     let of_plan = refusal::plan_refusal(table.jobs, &norms, plan);
     let refusal = or_else(workspace::refusal(space), or_else(of_table, of_plan));

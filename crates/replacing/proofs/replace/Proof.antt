@@ -1,11 +1,11 @@
--- `alike_list::replace` meets its contract. Assumes nothing.
+-- `replacing::replace` meets its contract. Assumes nothing.
 use mathlib.Core.Path.{sym, _∙_}
 use native.Mathlib.Omega.{arith}
 use borrow.Author.Needs.{needs}
 use Rattle.answer.proofs.RefusalChains.{neither}
-use Rattle.alike_list.proofs.ListSources.{without-list, list-refused, list-replaced}
-use Rattle.alike_list.proofs.replace.Statement.{statement}
-use Rattle.alike_list.proofs.replace.Tie as tie
+use Rattle.replacing.proofs.ListSources.{without-list, list-refused, list-replaced}
+use Rattle.replacing.proofs.replace.Statement.{statement}
+use Rattle.replacing.proofs.replace.Tie as tie
 
 returns : tie.Need-returns
 returns c = λ f t jobs ns l. without-list l (c .before .before .args .list .now) (c .if1 .taken)

@@ -16,7 +16,7 @@ use Rattle.rules.specs.Places.{all-zero, move-in, with-move, rule-in, place-goo
 use Rattle.rules.proofs.ListLaws.{place-next}
 use Rattle.rules.proofs.PlaceBack.{after-few}
 use Rattle.image.proofs.PlaceRows.{drop-take}
-use Rattle.alike_list.specs.PairArrays.{with-moves}
+use Rattle.replacing.specs.ReplacedMoves.{with-moves}
 
 -- a place has eight bytes
 pub data Place : List ℕ → Type 0 where

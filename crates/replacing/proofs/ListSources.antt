@@ -16,10 +16,11 @@ use Rattle.norm.specs.NormArrays.{ExactNorms, GoodNorms}
 use Rattle.table.specs.Tables.{Loads}
 use Rattle.alike.specs.Alike.{Pair, replace, replaced-rule, replaced}
 use Rattle.alike.proofs.ReplacedTables.{norms-replaced, good-replaced}
 use Rattle.alike_list.specs.AlikeLists.{alike-pairs, alike-refusal}
-use Rattle.alike_list.specs.PairArrays.{counts-as, HoldsPairs, ReadsList, with-moves}
-use Rattle.alike_list.proofs.NoList.{no-refusal, no-replacement}
-use Rattle.alike_list.proofs.ReplacedPlaces.{moves-length, moves-front, moves-good, moves-rules}
+use Rattle.alike_list.specs.PairArrays.{counts-as, HoldsPairs, ReadsList}
+use Rattle.replacing.specs.ReplacedMoves.{with-moves}
+use Rattle.replacing.proofs.NoList.{no-refusal, no-replacement}
+use Rattle.replacing.proofs.ReplacedPlaces.{moves-length, moves-front, moves-good, moves-rules}
 
 -- A LIST OF RULES WITH ITS MOVES REPLACED
 module _ (ps : List Pair) (f : ℕ → ℕ) (same : (a : ℕ) → f a ≡ replace ps a) (jobs : ℕ) (rs : List ℕ) (g : GoodList jobs rs) where

@@ -1,4 +1,4 @@
--- `alike_list::replace_move` meets its contract. Assumes nothing.
+-- `replacing::replace_move` meets its contract. Assumes nothing.
 use mathlib.Core.Path.{_≡_, sym, ap, _∙_}
 use mathlib.Core.Bool.{Bool, cond}
 use mathlib.Core.List.{List}
@@ -8,10 +8,10 @@ use borrow.Author.Needs.{needs}
 use lib.ListN.{take}
 use Rattle.rules.specs.Places.{move-in, with-move}
 use Rattle.alike.specs.Alike.{stands-in}
 use Rattle.alike_list.specs.PairArrays.{sum-at, counts-as}
-use Rattle.alike_list.proofs.ReplacedPlaces.{place-of-eight, own-move}
-use Rattle.alike_list.proofs.replace_move.Statement.{statement}
-use Rattle.alike_list.proofs.replace_move.Tie as tie
+use Rattle.replacing.proofs.ReplacedPlaces.{place-of-eight, own-move}
+use Rattle.replacing.proofs.replace_move.Statement.{statement}
+use Rattle.replacing.proofs.replace_move.Tie as tie
 
 -- the move of the place, and whether it is a from-move
 module _ (c : tie.After-stands) where

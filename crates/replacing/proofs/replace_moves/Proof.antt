@@ -1,4 +1,4 @@
--- `alike_list::replace_moves` meets its contract. The loop's invariant: the places passed have their moves replaced, and the others are as they
+-- `replacing::replace_moves` meets its contract. The loop's invariant: the places passed have their moves replaced, and the others are as they
 -- were. Assumes nothing.
 use mathlib.Core.Path.{_≡_, refl, sym, ap, ap₂, _∙_}
 use mathlib.Core.List.{List, _++_, append-assoc}
@@ -8,10 +8,11 @@ use borrow.Rule.Slice.PartMut.{putMid, postOf}
 use lib.ListN.{length, take, drop, length-append, length-drop, length-take}
 use lib.Seq.{take-at, drop-at, drop-drop}
 use Rattle.rules.specs.Places.{move-in, with-move}
-use Rattle.alike_list.specs.PairArrays.{counts-as, with-moves}
-use Rattle.alike_list.proofs.ReplacedPlaces.{moved, moves-length, moves-more}
-use Rattle.alike_list.proofs.replace_moves.Statement.{statement}
-use Rattle.alike_list.proofs.replace_moves.Tie as tie
+use Rattle.alike_list.specs.PairArrays.{counts-as}
+use Rattle.replacing.specs.ReplacedMoves.{with-moves}
+use Rattle.replacing.proofs.ReplacedPlaces.{moved, moves-length, moves-more}
+use Rattle.replacing.proofs.replace_moves.Statement.{statement}
+use Rattle.replacing.proofs.replace_moves.Tie as tie
 
 abbrev passed : (counts : ℕ → ℕ) → (i : ℕ) → (rules : List ℕ) → List ℕ
 passed f i rs = with-moves f i rs ++ drop (8 * i) rs

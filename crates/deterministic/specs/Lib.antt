@@ -1,0 +1,3 @@
+-- Tables without a choice of outcome.
+pub mod Deterministic
+pub mod CompleteRuns

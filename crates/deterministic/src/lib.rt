@@ -1,0 +1,1 @@
+// Tables without a choice of outcome, and plans with the same complete runs. No code.

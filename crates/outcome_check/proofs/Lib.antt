@@ -1,0 +1,2 @@
+-- The pass over the rules of a list.
+pub mod PassedStarts

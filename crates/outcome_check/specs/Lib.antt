@@ -1,0 +1,2 @@
+-- Rules that begin alike.
+pub mod RuleStarts

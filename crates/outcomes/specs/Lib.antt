@@ -1,0 +1,2 @@
+-- What the call about a choice of outcome answers.
+pub mod OutcomeCalls

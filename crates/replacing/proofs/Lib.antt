@@ -1,0 +1,4 @@
+-- Laws of tables with their moves replaced, as bytes.
+pub mod ReplacedPlaces
+pub mod NoList
+pub mod ListSources

@@ -1,0 +1,2 @@
+-- Tables with their moves replaced, as bytes.
+pub mod ReplacedMoves
