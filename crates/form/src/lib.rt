@@ -10,7 +10,7 @@ pub fn same_forms(rows: &[u8], lens: &[u16; 24], p: &[u8], q: &[u8], rest: &[u8]
     requires { ⌜ Comparable (now lens) (now rows) (now p) (now q) ⌝ }
     ensures { λ r. ⌜ Tells r (expand (row (now (lens .entry)) (now (rows .entry))) (now (p .entry))) (expand (row (now (lens .entry)) (now (rows .entry))) (now (q .entry)) ++ now (rest .entry)) ⌝ }
 {
-    match rows::first_difference(rows, lens, p, q, rest) {
+    match differences::first_difference(rows, lens, p, q, rest) {
         Difference::Equal => true,
         Difference::Ends => false,
         Difference::Differ(_, _) => false,

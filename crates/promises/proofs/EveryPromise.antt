@@ -120,6 +120,7 @@ every-promise = record {
   alike-choice-exactly = outcomes.alike-choice-exactly;
   steps-single = outcomes.steps-single;
   choice-reordered = outcomes.choice-reordered;
+  choice-stays = outcomes.choice-stays;
   runs-stay = outcomes.runs-stay;
   same-by-runs = outcomes.same-by-runs;
   run-tells = outcomes.run-tells;

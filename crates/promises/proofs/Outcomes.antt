@@ -54,6 +54,10 @@ choice-reordered t u s =
     (λ e. no-choice-exactly u .1 (λ j a v w m k. no-choice-exactly t .0 e j a v w (s j a v .1 m) (s j a w .1 k)))
     (λ e. no-choice-exactly t .1 (λ j a v w m k. no-choice-exactly u .0 e j a v w (s j a v .0 m) (s j a w .0 k)))
 
+pub choice-stays : promised.Choice-stays
+unfolding promised.Choice-stays promised.Alike-choice-exactly
+choice-stays ps t e = no-choice-exactly t .1 (λ j a v w m k. alike-choice-exactly ps t .0 e j a a v w m k refl)
+
 -- COMPLETE RUNS
 pub runs-stay : promised.Runs-stay
 unfolding promised.Runs-stay

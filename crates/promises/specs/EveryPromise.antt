@@ -132,6 +132,7 @@ pub record EveryPromise : Type 1 where
   pub alike-choice-exactly : outcomes.Alike-choice-exactly
   pub steps-single : outcomes.Steps-single
   pub choice-reordered : outcomes.Choice-reordered
+  pub choice-stays : outcomes.Choice-stays
   pub runs-stay : outcomes.Runs-stay
   pub same-by-runs : outcomes.Same-by-runs
   pub run-tells : outcomes.Run-tells

@@ -36,6 +36,10 @@ Steps-single =
 unfoldable pub Choice-reordered : Type 0
 Choice-reordered = (t u : Table) → SameRules t u → no-choice t ≡ no-choice u
 
+-- a list takes no choice away
+unfoldable pub Choice-stays : Type 0
+Choice-stays = (ps : List Pair) (t : Table) → no-choice (replaced ps t) ≡ true → no-choice t ≡ true
+
 -- COMPLETE RUNS
 -- one half, of every table: plans that are the same allow the same complete runs
 unfoldable pub Runs-stay : Type 0

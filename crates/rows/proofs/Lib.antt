@@ -2,10 +2,7 @@
 pub mod Heads
 pub mod Parts
 pub mod LentRows
-pub mod NextJobs
 pub mod EqualRows
-pub mod RightSides
-pub mod Cursors
 pub mod WrittenPlans
 pub mod OneRow
 pub mod JobsAlone

@@ -1,4 +1,4 @@
--- `rows::first_difference` meets its contract: what is left of the two plans has their leftmost difference. Assumes nothing.
+-- `differences::first_difference` meets its contract: what is left of the two plans has their leftmost difference. Assumes nothing.
 use mathlib.Core.Path.{refl, sym, ap}
 use mathlib.Core.Bool.{cond}
 use Prim.Native.Nat.{ℕ, _+_, _-_, _≤_}
@@ -8,13 +8,13 @@ use borrow.Author.Needs.{needs}
 use borrow.Author.Tests.{eqb-true}
 use Rattle.bpa.specs.Method.{expand}
 use Rattle.bpa.proofs.Basics.Cases.{never-both}
 use Rattle.rows.specs.Region.{row}
 use Rattle.rows.specs.Answers.{meaning}
-use Rattle.rows.proofs.RightSides.{side-long}
-use Rattle.rows.proofs.Cursors.{At, Between, left-row, right-row, at-first, enter-left, pass-job, leave-left, enter-right, enter-rest}
-use Rattle.rows.proofs.Cursors.{left-ends-first, plans-end, right-ends-first, places-differ, places-equal, places-passed}
-use Rattle.rows.proofs.first_difference.Statement.{statement}
-use Rattle.rows.proofs.first_difference.Tie as tie
+use Rattle.differences.proofs.RightSides.{side-long}
+use Rattle.differences.proofs.Cursors.{At, Between, left-row, right-row, at-first, enter-left, pass-job, leave-left, enter-right, enter-rest}
+use Rattle.differences.proofs.Cursors.{left-ends-first, plans-end, right-ends-first, places-differ, places-equal, places-passed}
+use Rattle.differences.proofs.first_difference.Statement.{statement}
+use Rattle.differences.proofs.first_difference.Tie as tie
 
 abbrev Inv-loop : tie.InvT-loop
 Inv-loop rows lens p q rest i t₀ at₀ end₀ behind₀ next job k₀ stop entered₀ t at end behind k entered =

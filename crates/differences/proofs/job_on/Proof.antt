@@ -1,10 +1,10 @@
--- `rows::job_on` meets its contract. Assumes nothing.
+-- `differences::job_on` meets its contract. Assumes nothing.
 use mathlib.Core.Path.{sym, ap}
 use native.Mathlib.Omega.{arith}
 use lib.ListN.{length, getD}
-use Rattle.rows.proofs.RightSides.{side-behind, side-in-rows}
-use Rattle.rows.proofs.job_on.Statement.{statement}
-use Rattle.rows.proofs.job_on.Tie as tie
+use Rattle.differences.proofs.RightSides.{side-behind, side-in-rows}
+use Rattle.differences.proofs.job_on.Statement.{statement}
+use Rattle.differences.proofs.job_on.Tie as tie
 
 shared-slice-read-result : tie.Need-shared-slice-read-result
 shared-slice-read-result c =

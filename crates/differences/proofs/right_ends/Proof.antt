@@ -1,9 +1,9 @@
--- `rows::right_ends` meets its contract. Assumes nothing.
+-- `differences::right_ends` meets its contract. Assumes nothing.
 use mathlib.Core.Path.{refl}
 use native.Mathlib.Omega.{arith}
-use Rattle.rows.proofs.RightSides.{right-goes-on, ends-behind, ends-if}
-use Rattle.rows.proofs.right_ends.Statement.{statement}
-use Rattle.rows.proofs.right_ends.Tie as tie
+use Rattle.differences.proofs.RightSides.{right-goes-on, ends-behind, ends-if}
+use Rattle.differences.proofs.right_ends.Statement.{statement}
+use Rattle.differences.proofs.right_ends.Tie as tie
 
 returns : tie.Need-returns
 returns c =

@@ -7,7 +7,8 @@ use lib.Dec.{eqb}
 use lib.ListN.{length}
 use borrow.Author.Tests.{eqb-true, eq-eqb}
 use Rattle.bpa.proofs.Basics.Cases.{by-test, never-both}
-use Rattle.rows.specs.Answers.{Decides, side, RightEnds}
+use Rattle.rows.specs.Answers.{Decides}
+use Rattle.differences.specs.Sides.{side, RightEnds}
 
 module _ (behind : Bool) (rows rest : List ℕ) where
   pub side-behind : behind ≡ true → side behind rows rest ≡ rest

@@ -1,10 +1,10 @@
--- `rows::leap_from` meets its contract. Assumes nothing.
+-- `differences::leap_from` meets its contract. Assumes nothing.
 use mathlib.Core.Path.{ap}
 use native.Mathlib.Omega.{arith}
 use lib.ListN.{length}
-use Rattle.rows.proofs.RightSides.{side-behind, side-in-rows}
-use Rattle.rows.proofs.leap_from.Statement.{statement}
-use Rattle.rows.proofs.leap_from.Tie as tie
+use Rattle.differences.proofs.RightSides.{side-behind, side-in-rows}
+use Rattle.differences.proofs.leap_from.Statement.{statement}
+use Rattle.differences.proofs.leap_from.Tie as tie
 
 leap-requires : tie.Need-leap-requires
 leap-requires c κs =

@@ -12,11 +12,12 @@ use borrow.Author.Tests.{ltb-true, ltb-false}
 use Rattle.bpa.specs.Method.{Rows, expand, first-difference, equal, ends, differ}
 use Rattle.bpa.proofs.Basics.Cases.{by-test, is-false}
 use Rattle.bpa.proofs.Basics.JobsBelow.{below-at}
 use Rattle.rows.specs.Region.{row, Comparable}
-use Rattle.rows.specs.Answers.{Leaps, side, RightEnds}
+use Rattle.rows.specs.Answers.{Leaps}
+use Rattle.differences.specs.Sides.{side, RightEnds}
 use Rattle.rows.proofs.Heads.{heads-equal, fronts-equal, heads-differ, both-end, left-ends, right-ends}
 use Rattle.rows.proofs.Parts.{expand-at, expand-end, slice-split, row-inside, enter, enter-cons}
-use Rattle.rows.proofs.RightSides.{side-behind, side-in-rows, ends-behind}
+use Rattle.differences.proofs.RightSides.{side-behind, side-in-rows, ends-behind}
 
 -- what is left of the right side: the rest of the row that it is in, the expansion behind it, and the row behind that, if it is not yet begun
 abbrev pub right-left : (e : Rows) (region q rest : List ℕ) (behind : Bool) (t at end : ℕ) → List ℕ

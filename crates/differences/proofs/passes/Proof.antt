@@ -1,8 +1,8 @@
--- `rows::passes` meets its contract. Assumes nothing.
+-- `differences::passes` meets its contract. Assumes nothing.
 use borrow.Author.Needs.{needs}
-use Rattle.rows.proofs.NextJobs.{passes-not, passes-if}
-use Rattle.rows.proofs.passes.Statement.{statement}
-use Rattle.rows.proofs.passes.Tie as tie
+use Rattle.differences.proofs.NextJobs.{passes-not, passes-if}
+use Rattle.differences.proofs.passes.Statement.{statement}
+use Rattle.differences.proofs.passes.Tie as tie
 
 returns : tie.Need-returns
 returns c =

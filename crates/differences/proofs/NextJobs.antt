@@ -6,7 +6,7 @@ use Prim.Native.Nat.{ℕ, _<_}
 use lib.Dec.{eqb}
 use lib.ListN.{length, getD}
 use borrow.Author.Tests.{eqb-true}
-use Rattle.rows.specs.Answers.{Passes}
+use Rattle.differences.specs.Sides.{Passes}
 
 module _ (begins : Bool) (plan : List ℕ) (at job : ℕ) where
   pub passes-not : Passes begins plan at job false

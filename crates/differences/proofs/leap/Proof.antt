@@ -1,9 +1,9 @@
--- `rows::leap` meets its contract. Assumes nothing.
+-- `differences::leap` meets its contract. Assumes nothing.
 use native.Mathlib.Omega.{arith}
 use borrow.Author.Needs.{needs}
 use Rattle.rows.proofs.EqualRows.{no-leap, leap-over}
-use Rattle.rows.proofs.leap.Statement.{statement}
-use Rattle.rows.proofs.leap.Tie as tie
+use Rattle.differences.proofs.leap.Statement.{statement}
+use Rattle.differences.proofs.leap.Tie as tie
 
 returns : tie.Need-returns
 returns c =

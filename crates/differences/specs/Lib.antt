@@ -1,0 +1,2 @@
+-- Two plans compared by their rows.
+pub mod Sides
