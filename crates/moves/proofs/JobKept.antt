@@ -12,7 +12,7 @@ use Rattle.bpa.proofs.Basics.Cases.{by-test, is-false}
 use Rattle.rules.specs.Places.{rule-at, rule-count}
 use Rattle.rules.specs.Lists.{GoodList}
 use Rattle.rules.proofs.PlaceBack.{same-bytes}
-use Rattle.repeated.specs.Repeated.{Repeated, place-at, bucket-of, Leads, Kept, by-bytes}
+use Rattle.repeated.specs.Repeated.{Repeated, place-at, bucket-of, Leads, Kept}
 use Rattle.repeated.proofs.KeptRules.{kept-later, kept-added, kept-still}
 use Rattle.moves.specs.Shown.{move-by}
 use Rattle.moves.proofs.OneCombination.{one-combination}
@@ -21,13 +21,13 @@ use Rattle.moves.proofs.NthRule.{made, passed, was-made, made-by}
 
 -- each rule of the job before i is equal to one that is kept
 abbrev pub JobKept : (rs : List ℕ) (j : ℕ) (links last : List ℕ) (i : ℕ) → Type 0
-JobKept rs j links last i = (e : ℕ) → e < i → rule-at rs e .job ≡ j → (d : ℕ) × Kept (by-bytes rs) links last i d × (place-at rs d ≡ place-at rs e)
+JobKept rs j links last i = (e : ℕ) → e < i → rule-at rs e .job ≡ j → (d : ℕ) × Kept rs links last i d × (place-at rs d ≡ place-at rs e)
 
 module _ (n : ℕ) (rs : List ℕ) (good : GoodList n rs) (bytes : (k : ℕ) → getD rs k 0 < 256) (j : ℕ) (links last : List ℕ) (i : ℕ)
     (h : i < rule-count rs) (kept : JobKept rs j links last i) where
   -- rules before the next one: those before this one, and this one
-  next-rule : (links′ last′ : List ℕ) → ((d : ℕ) → Kept (by-bytes rs) links last i d → Kept (by-bytes rs) links′ last′ (suc i) d) →
-      (rule-at rs i .job ≡ j → (d : ℕ) × Kept (by-bytes rs) links′ last′ (suc i) d × (place-at rs d ≡ place-at rs i)) → JobKept rs j links′ last′ (suc i)
+  next-rule : (links′ last′ : List ℕ) → ((d : ℕ) → Kept rs links last i d → Kept rs links′ last′ (suc i) d) →
+      (rule-at rs i .job ≡ j → (d : ℕ) × Kept rs links′ last′ (suc i) d × (place-at rs d ≡ place-at rs i)) → JobKept rs j links′ last′ (suc i)
   next-rule links′ last′ still this e l is =
       by-test (ltb e i)
       (λ t. let (d, k, same) = kept e (ltb-true e i t) is in (d, still d k, same))
@@ -37,21 +37,21 @@ module _ (n : ℕ) (rs : List ℕ) (good : GoodList n rs) (bytes : (k : ℕ) →
       (d, k, same ∙ ap (place-at rs) here))
 
   pub kept-past : (rule-at rs i .job ≡ j → ⊥) → JobKept rs j links last (suc i)
-  kept-past other = next-rule links last (kept-later (by-bytes rs) links last i) (λ is. absurd (other is))
+  kept-past other = next-rule links last (kept-later rs links last i) (λ is. absurd (other is))
 
   pub kept-again : Repeated rs i → JobKept rs j links last (suc i)
-  kept-again r = next-rule links last (kept-later (by-bytes rs) links last i) (λ is.
+  kept-again r = next-rule links last (kept-later rs links last i) (λ is.
       let (d, k, same) = kept (r .earlier) (r .before) (ap (λ (x : Rule). x .job) (r .same) ∙ is) in (
         d,
-        kept-later (by-bytes rs) links last i d k,
+        kept-later rs links last i d k,
         same ∙ same-bytes n rs good (r .earlier) i (let l = r .before in omega arith) h (bytes (8 * r .earlier + 1)) (bytes (8 * i + 1)) (r .same),
       ))
 
   pub kept-new : i < 252 → length links ≡ 252 → length last ≡ 64 → (b : ℕ) → b < 64 → b ≡ bucket-of (place-at rs i) →
       JobKept rs j (set links i (getD last b 0)) (set last b i) (suc i)
   kept-new small size sizes b l is =
-      next-rule (set links i (getD last b 0)) (set last b i) (kept-still (by-bytes rs) links last i b small size (omega arith))
-      (λ o. (i, kept-added (by-bytes rs) links last i b small size (omega arith) is, refl))
+      next-rule (set links i (getD last b 0)) (set last b i) (kept-still rs links last i b small size (omega arith))
+      (λ o. (i, kept-added rs links last i b small size (omega arith) is, refl))
 
   -- the answer of the buckets, as moves: a rule that stands again makes a move that was made, and another one makes a new move
   module _ (own : rule-at rs i .job ≡ j) where

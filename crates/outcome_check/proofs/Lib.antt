@@ -1,2 +1,3 @@
--- The pass over the rules of a list.
-pub mod PassedStarts
+-- Laws of the pass over the rules of a list.
+pub mod Ways
+pub mod PassedRules

@@ -1,2 +1,2 @@
--- Rules that begin alike.
-pub mod RuleStarts
+-- Rules that begin alike, and where a pass over a list keeps them.
+pub mod RuleTrees

@@ -1,5 +1,6 @@
 // Whether a list of rules has no choice of outcome, told in one pass. Of the rules that were passed, the first of each job and move is kept, in
-// buckets by both; a rule that begins as a kept one must have its row.
+// a tree for each of 64 remainders of a job's moves; a rule that begins as a kept one must have its row. A way down a tree goes by the digits of a
+// move, so that it has at most eleven rules, whatever the table.
 use area::wide;
 use rules::rule_after;
 use rules::rule_job;
@@ -10,7 +11,13 @@ ghost use Rattle.rules.specs.Places.{rule-at, rule-count, table-of};
 ghost use Rattle.rules.specs.Lists.{GoodList};
 ghost use Rattle.rows.specs.Answers.{Decides};
 ghost use Rattle.deterministic.specs.Deterministic.{no-choice};
-ghost use Rattle.outcome_check.specs.RuleStarts.{SameStart, IsStartBucket, Earlier};
+ghost use Rattle.outcome_check.specs.RuleTrees.{SameStart, Rising, Finds};
+
+// A rule, and a slot of the trees.
+struct Place {
+    rule: usize,
+    slot: usize,
+}
 
 // Whether two rules have the same job and the same move.
 fn same_start(rules: &[u8], i: usize, k: usize) -> bool
@@ -23,34 +30,33 @@ fn same_start(rules: &[u8], i: usize, k: usize) -> bool
     false
 }
 
-// A number for the job and the move of a rule.
-fn bucket(rules: &[u8], i: usize) -> usize
-    requires { ⌜ i < rule-count (now rules) ⌝ }
+// The kept rule that begins as rule i; i if there is none, and the slot at which it is to be kept.
+fn find(rules: &[u8], slots: &[u8; 2040], i: usize) -> Place
+    requires { ⌜ (i < rule-count (now rules)) × (rule-count (now rules) ≤ 252) ⌝ }
     requires { ⌜ rule-at (now rules) i .job < 24 ⌝ }
-    ensures { λ r. ⌜ IsStartBucket (rule-at (now (rules .entry)) i) r ⌝ }
+    requires { ⌜ Rising (now slots) i ⌝ }
+    ensures { λ r. ⌜ Finds (now (rules .entry)) (now (slots .entry)) i (r .rule) (r .slot) ⌝ }
 {
     let action = rule_move(rules, i) as usize;
-    64 * rule_job(rules, i) + (action + action / 256) % 64
-}
-
-// The kept rule that begins as rule i, of those in its bucket, whose last rule is given; i if there is none. From each rule a link leads back to the
-// one before it in its bucket; 255 ends them.
-fn earlier(rules: &[u8], links: &[u8; 252], last: usize, i: usize) -> usize
-    requires { ⌜ (i < rule-count (now rules)) × (rule-count (now rules) ≤ 252) ⌝ }
-    ensures { λ r. ⌜ Earlier (now (rules .entry)) (now (links .entry)) last i r ⌝ }
-{
-    let mut k = last;
-    while k < i {
-        let at = k;
-        if same_start(rules, at, i) {
-            return at;
+    let mut slot = 64 * rule_job(rules, i) + action % 64;
+    let mut rest = action / 64;
+    loop {
+        let k = wide(slots[slot]);
+        if 252 <= k {
+            return Place {
+                rule: i,
+                slot: slot,
+            };
         }
-        k = wide(links[at]);
-        if at <= k {
-            return i;
+        if same_start(rules, k, i) {
+            return Place {
+                rule: k,
+                slot: slot,
+            };
         }
+        slot = 1536 + 2 * k + rest % 2;
+        rest = rest / 2;
     }
-    i
 }
 
 // Whether rules of one job and one move always have one row.
@@ -59,17 +65,16 @@ pub fn no_choice(jobs: usize, rules: &[u8]) -> bool
     ensures { λ r. ⌜ r ≡ no-choice (table-of jobs (now (rules .entry))) ⌝ }
 {
     let total = rules::rule_total(rules);
-    let mut links = [255u8; 252];
-    let mut last = [255u8; 1536];
+    let mut slots = [255u8; 2040];
     let mut i = 0;
     while i < total {
         let at = i;
         i += 1;
-        let b = bucket(rules, at);
-        let before = earlier(rules, &links, wide(last[b]), at);
+        let place = find(rules, &slots, at);
+        let before = place.rule;
         if before == at {
-            links[at] = last[b];
-            last[b] = at as u8;
+            let slot = place.slot;
+            slots[slot] = at as u8;
             continue;
         }
         if rows::same_row(rule_after(rules, before), rule_after(rules, at)) {

@@ -39,11 +39,7 @@ pub record Stands (rs links : List ℕ) (last i : ℕ) (answer : Bool) : Type 0 
   pub yes : answer ≡ true → Repeated rs i
   pub no : answer ≡ false → last < i → (e : ℕ) → Leads links last e → place-at rs e ≡ place-at rs i → ⊥
 
--- A RULE IS KEPT before rule i: links lead back to it from the last rule of its bucket, whatever the buckets go by
-pub record Kept (bucket : ℕ → ℕ) (links last : List ℕ) (i e : ℕ) : Type 0 where
-  pub first : getD last (bucket e) 0 < i
-  pub leads : Leads links (getD last (bucket e) 0) e
-
--- buckets that go by the bytes of rules
-abbrev pub by-bytes : (rules : List ℕ) → (i : ℕ) → ℕ
-by-bytes rs i = bucket-of (place-at rs i)
+-- A RULE IS KEPT before rule i: links lead back to it from the last rule of its bucket
+pub record Kept (rs links last : List ℕ) (i e : ℕ) : Type 0 where
+  pub first : getD last (bucket-of (place-at rs e)) 0 < i
+  pub leads : Leads links (getD last (bucket-of (place-at rs e)) 0) e

@@ -1,24 +1,23 @@
 -- `outcome_check::no_choice` meets its contract. Assumes nothing.
-use mathlib.Core.Path.{_≡_, sym, _∙_, subst}
+use mathlib.Core.Path.{_≡_, sym, _∙_}
 use mathlib.Core.List.{List}
 use Prim.Native.Nat.{ℕ, _-_, _<_}
 use native.Mathlib.Numerals.{add-one}
 use native.Mathlib.Omega.{arith}
-use lib.ListN.{getD}
 use borrow.Author.Needs.{needs}
 use Rattle.bpa.proofs.Basics.Cases.{never-both}
 use Rattle.rules.specs.Places.{rule-at, rule-count}
 use Rattle.rules.proofs.ListLaws.{good-has-place, good-rule}
-use Rattle.outcome_check.specs.RuleStarts.{Earlier}
-use Rattle.outcome_check.proofs.PassedStarts.{Passing, passing-start, passing-again, passing-new, passed-all, choice-found}
+use Rattle.outcome_check.specs.RuleTrees.{EmptySlot}
+use Rattle.outcome_check.proofs.PassedRules.{Passing, passing-start, passing-again, passing-new, passed-all, choice-found}
 use Rattle.outcome_check.proofs.no_choice.Statement.{statement}
 use Rattle.outcome_check.proofs.no_choice.Tie as tie
 
 abbrev Inv-loop : tie.InvT-loop
-Inv-loop jobs rules total links₀ last₀ i₀ links last i = (total ≡ rule-count rules) × Passing rules links last i
+Inv-loop jobs rules total slots₀ i₀ slots i = (total ≡ rule-count rules) × Passing rules slots i
 
 abbrev μ-loop : tie.MeasureT-loop
-μ-loop jobs rules total links₀ last₀ i₀ links last i = total - i
+μ-loop jobs rules total slots₀ i₀ slots i = total - i
 
 loop-holds : tie.Need-loop-holds Inv-loop μ-loop
 loop-holds c = (c .rule-total .ensures, passing-start (c .before .before .args .rules .now))
@@ -40,35 +39,30 @@ module _ (c : tie.In-loop Inv-loop μ-loop) where
   job-small : rule-at rs (c .before .loop .i) .job < 24
   job-small = omega (arith, good-rule (start .args .jobs) rs (start .pre) (c .before .loop .i) inside .job, start .pre .jobs)
 
--- the kept rule that begins as it does
-module _ (c : tie.After-earlier Inv-loop μ-loop) where
+-- the kept rule that begins as it does, or its slot
+module _ (c : tie.After-find Inv-loop μ-loop) where
   abbrev turn : tie.In-loop Inv-loop μ-loop
-  turn = c .before .before .before .before
+  turn = c .before .before
 
-  abbrev b : ℕ
-  b = c .before .before .before .bucket .result
+  abbrev found : ℕ
+  found = c .find .result .rule
 
-  answer : Earlier (rs turn) (turn .before .loop .links) (getD (turn .before .loop .last) b 0) (turn .before .loop .i) (c .earlier .result)
-  answer =
-      subst (λ (x : ℕ). Earlier (rs turn) (turn .before .loop .links) x (turn .before .loop .i) (c .earlier .result)) (c .before .wide .ensures .is)
-      (c .earlier .ensures)
+empty : (c : tie.Then1 Inv-loop μ-loop) →
+    let t = turn (c .before) in EmptySlot (rs t) (t .before .loop .slots) (t .before .loop .i) (c .before .find .result .slot)
+empty c = c .before .find .ensures .free (c .if1 .taken)
 
 loop-again : tie.Need-loop-again Inv-loop μ-loop
 loop-again c =
-    let e = c .before in
-    let t = turn e in
+    let t = turn (c .before) in
     let l = t .before .loop in
-    let at = e .before .before .before .bucket .ensures in (
-      l .inv .0,
-      rw add-one (passing-new (rs t) (l .links) (l .last) (l .i) (l .inv .1) (b e) (at .is) (answer e .none (c .if1 .taken)) (small t) (at .small)),
-    )
+    (l .inv .0, rw add-one (passing-new (rs t) (l .slots) (l .i) (l .inv .1) (c .before .find .result .slot) (empty c) (small t)))
 
 -- another rule was found, and it is an earlier one
 module _ (c : tie.Else1 Inv-loop μ-loop) where
-  before : c .before .earlier .result < turn (c .before) .before .loop .i
-  before = let g = c .if1 .left in omega (arith, answer (c .before) .within)
+  before : found (c .before) < turn (c .before) .before .loop .i
+  before = let g = c .if1 .left in omega (arith, c .before .find .ensures .within)
 
-  found-inside : c .before .earlier .result < rule-count (rs (turn (c .before)))
+  found-inside : found (c .before) < rule-count (rs (turn (c .before)))
   found-inside = omega (arith, before, inside (turn (c .before)))
 
 rule-after-requires : tie.Need-rule-after-requires Inv-loop μ-loop
@@ -91,7 +85,7 @@ loop-again-2 c =
     let row = sym (one .rule-after .ensures) ∙ c .before .same-row .ensures .yes (c .if2 .taken) ∙ two .rule-after2 .ensures in (
       l .inv .0,
       rw add-one
-          (passing-again (rs t) (l .links) (l .last) (l .i) (l .inv .1) (e .before .earlier .result) (before e) (answer (e .before) .found (before e)) row),
+          (passing-again (rs t) (l .slots) (l .i) (l .inv .1) (found (e .before)) (before e) (e .before .find .ensures .found (before e)) row),
     )
 
 returns : tie.Need-returns Inv-loop μ-loop
@@ -100,8 +94,8 @@ returns c =
     let one = two .before in
     let e = one .before in
     let t = turn (e .before) in
-    choice-found (start t .args .jobs) (rs t) (e .before .earlier .result) (t .before .loop .i) (found-inside e) (inside t)
-    (answer (e .before) .found (before e))
+    choice-found (start t .args .jobs) (rs t) (found (e .before)) (t .before .loop .i) (found-inside e) (inside t)
+    (e .before .find .ensures .found (before e))
     (λ same.
     never-both (c .before .same-row .result) (c .before .same-row .ensures .no (one .rule-after .ensures ∙ same ∙ sym (two .rule-after2 .ensures)))
     (c .if2 .left))
@@ -110,7 +104,7 @@ returns-2 : tie.Need-returns-2 Inv-loop μ-loop
 returns-2 c =
     let l = c .before .loop in
     let s = c .before .before .before .before in
-    passed-all (s .args .jobs) (s .args .rules .now) (l .links) (l .last) (l .i) (l .inv .1) (omega (arith, c .loop-test .left, l .inv .0))
+    passed-all (s .args .jobs) (s .args .rules .now) (l .slots) (l .i) (l .inv .1) (omega (arith, c .loop-test .left, l .inv .0))
 
 pub no-choice-spec : {M : Type 1} → statement M
 no-choice-spec =
@@ -121,14 +115,9 @@ no-choice-spec =
     (λ c κs. search needs)  -- rule-total-requires
     loop-holds
     (λ c. omega (arith, small c))  -- add-i
-    (λ c κs. (inside c, job-small c))  -- bucket-requires
-    (λ c. c .before .bucket .ensures .small)  -- array-read-wide
-    (λ c κs. search needs)  -- wide-requires
-    (λ c κs. (inside (c .before .before .before), start (c .before .before .before) .pre .few))  -- earlier-requires
-    (λ c. c .before .before .before .before .bucket .ensures .small)  -- array-read-links
-    (λ c. small (turn (c .before)))  -- array-write-links
-    (λ c. omega (arith, small (turn (c .before))))  -- cast-last
-    (λ c. c .before .before .before .before .bucket .ensures .small)  -- array-write-last
+    (λ c κs. let t = c .before in ((inside t, start t .pre .few), (job-small t, t .before .loop .inv .1 .rising)))  -- find-requires
+    (λ c. omega (arith, small (turn (c .before))))  -- cast-slots
+    (λ c. omega (arith, empty c .low, small (turn (c .before))))  -- array-write-slots
     (λ c. omega (arith, turn (c .before) .loop-test .taken))  -- loop-less
     loop-again
     rule-after-requires
