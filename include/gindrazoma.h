@@ -48,9 +48,9 @@
 
 /* The version of this header, and of the archive that it belongs to. */
 #define GINDRAZOMA_VERSION_MAJOR 3
-#define GINDRAZOMA_VERSION_MINOR 3
+#define GINDRAZOMA_VERSION_MINOR 4
 #define GINDRAZOMA_VERSION_PATCH 0
-#define GINDRAZOMA_VERSION "3.3.0"
+#define GINDRAZOMA_VERSION "3.4.0"
 
 #ifdef __cplusplus
 extern "C" {
@@ -205,6 +205,21 @@ int32_t gindrazoma_prime_form_alike(const uint8_t *image, size_t image_len, cons
 int32_t gindrazoma_replay_log(const uint8_t *image, size_t image_len, const uint8_t *alike, size_t alike_len,
                               const uint8_t *plan, size_t plan_len, const uint8_t *log, size_t log_len,
                               uint8_t *space, size_t space_len);
+
+/*
+ * Whether a table is without a choice of outcome under an alike list: no job of it has two rules whose moves count as
+ * the same by the list and whose rows of jobs after the move differ. Rows are compared job by job, and order and length
+ * count: two different rows are a choice even if they are the same as plans. A rule that is written again is none, and
+ * rules of different jobs are none.
+ *
+ * Over a table without such a choice, gindrazoma_compare_alike with this list answers 1 exactly if both plans have the
+ * same complete runs, once their moves are replaced by the list. Over every table plans that are the same have the
+ * same complete runs; but where there is a choice, plans that have the same complete runs may be apart.
+ *
+ * Answer: 1 if the table is without a choice of outcome, 0 if it has one. No area is written to.
+ * Refusals: 2, 3, 4, 5, 6, 7, 12, 13, in this order.
+ */
+int32_t gindrazoma_deterministic(const uint8_t *image, size_t image_len, const uint8_t *alike, size_t alike_len);
 
 #ifdef __cplusplus
 }
