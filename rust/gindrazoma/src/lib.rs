@@ -3,6 +3,7 @@
 //! A [`Table`] holds an accepted image: rules by which jobs make moves, numbers of 16 bits, and become other jobs. A plan is
 //! a row of jobs, one byte a job. The table gives norms, moves, shortest runs and prime forms of plans, compares plans, and
 //! replays logs of moves on them. An [`Alike`] says which moves tally alike, for comparisons, prime forms and replays under it.
+//! [`Table::deterministic`] says whether comparing plans is comparing their complete runs.
 //! The functions of [`raw`] are the library's own calls on the caller's areas; include/gindrazoma.h describes them.
 //!
 //! ```no_run
@@ -15,6 +16,7 @@
 //! assert!(!table.same(&mut space, &[2], &[0])?);
 //! assert!(table.same_alike(&mut space, &Alike::new(&[(1001, 1000)]), &[2], &[0])?);
 //! assert_eq!(table.replay(&mut space, &[1, 2], &[1000, 1000, 1000])?, Replay::Leaves { place: 2 });
+//! assert!(table.deterministic());
 //! # Ok::<(), gindrazoma::Refusal>(())
 //! ```
 mod alike;

@@ -62,4 +62,5 @@ calls! {
     fn compare_alike(image: &[u8], alike: &[u8], left: &[u8], right: &[u8], space: &mut [u8]);
     fn prime_form_alike(image: &[u8], alike: &[u8], plan: &[u8], out: &mut [u8], space: &mut [u8]);
     fn replay_log(image: &[u8], alike: &[u8], plan: &[u8], log: &[u8], space: &mut [u8]);
+    fn deterministic(image: &[u8], alike: &[u8]);
 }

@@ -159,4 +159,21 @@ impl Table {
         let answer = raw::replay_log(&self.image, alike.bytes(), plan, &log, &mut space.0);
         Refusal::check(answer).map(Replay::of_answer)
     }
+
+    /// Whether the table is without a choice of outcome: no job has two rules of one move whose rows of jobs after it differ. A
+    /// rule that is written again is no choice; two rows that are bisimilar but not equal are one.
+    ///
+    /// Over such a table [`Table::same`] holds exactly if both plans have the same complete runs. Over every table plans that are
+    /// bisimilar have the same complete runs.
+    #[inline]
+    pub fn deterministic(&self) -> bool {
+        raw::deterministic(&self.image, &[]) == 1 // the image is accepted, and there is no list to refuse
+    }
+
+    /// The same once the moves of all rules are replaced by an alike list, and so of [`Table::same_alike`] under this list. A list
+    /// can make a choice, by moves that count as one, and takes none away.
+    #[inline]
+    pub fn deterministic_alike(&self, alike: &Alike) -> Result<bool, Refusal> {
+        Refusal::check(raw::deterministic(&self.image, alike.bytes())).map(|answer| answer == 1)
+    }
 }
