@@ -1,12 +1,9 @@
 /* Comparing plans and writing prime forms under alike lists: answers, refusals, and every byte of workspace and output. */
-#define _DEFAULT_SOURCE
 #include "check.h"
 #include "gindrazoma.h"
 
-#include <stdio.h>
 #include <stdlib.h>
 #include <string.h>
-#include <sys/mman.h>
 
 enum { FORM = 4096 };
 
@@ -708,22 +705,17 @@ static void lengths_of_lists(void)
     free(bytes);
 }
 
-/* Lengths whose low 32 bits are 0 or 4, in memory that is only reserved; not every machine gives it. */
+/* Lengths whose low 32 bits are 0 or 4. */
 static void lengths_above_32_bits(void)
 {
-    const size_t four_gib = (size_t)1 << 31 << 1;
+    struct area zeros = area_reserved(4);
     uint8_t *space = one_space(), out[4], plan = 1;
-    void *bytes = mmap(NULL, four_gib + 4, PROT_READ, MAP_PRIVATE | MAP_ANONYMOUS | MAP_NORESERVE, -1, 0);
-    if (four_gib == 0 || bytes == MAP_FAILED) {
-        puts("lengths above 32 bits were not tried: there is no memory of that length to reserve");
-        return;
-    }
     use_letters();
-    for (size_t len = four_gib; len <= four_gib + 4; len += 4) {
-        CHECK_EQ(gindrazoma_compare_alike(image, image_len, bytes, len, &plan, 1, &plan, 1, space, SPACE), -12);
-        CHECK_EQ(gindrazoma_prime_form_alike(image, image_len, bytes, len, &plan, 1, out, 4, space, SPACE), -12);
+    for (size_t len = zeros.len - 4; zeros.bytes != NULL && len <= zeros.len; len += 4) {
+        CHECK_EQ(gindrazoma_compare_alike(image, image_len, zeros.bytes, len, &plan, 1, &plan, 1, space, SPACE), -12);
+        CHECK_EQ(gindrazoma_prime_form_alike(image, image_len, zeros.bytes, len, &plan, 1, out, 4, space, SPACE), -12);
     }
-    munmap(bytes, four_gib + 4);
+    area_free(&zeros);
 }
 
 enum { SHORT_OUTPUT = DEFECTS, SETS = 2 * DEFECTS };
@@ -768,18 +760,9 @@ static void random_lists(void)
         struct table t = table_full(24 + (int)random_below(229));
         uint8_t plan[2] = { 0, 24 };
         use(&t);
-        size_t block = random_below((uint32_t)(image_len / 512));
-        if (random_below(3) == 0)
-            image[512 * block + random_below(512)] = (uint8_t)random_below(70);
-        if (random_below(4) != 0)
-            seal(image + 512 * block);
-        list_len = random_below(4) == 0 ? random_below(sizeof list) : 4 * random_below(PAIRS + 2);
-        uint32_t spread = 1 + random_below(256);
-        for (size_t i = 0; i < list_len; i++)
-            list[i] = (uint8_t)random_below(spread);
-        int refusal = refusal_of_image(image, image_len);
-        if (refusal == 0)
-            refusal = refusal_of_pairs();
+        damage_image();
+        list_of_any_bytes();
+        int refusal = refusal_in_force();
         if (refusal == 0)
             refusal = 8;
         seen[refusal]++;

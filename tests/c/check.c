@@ -7,7 +7,7 @@
 #include <string.h>
 #include <sys/mman.h>
 
-enum { GUARD = 64 };
+enum { GUARD = 64, PAGE = 4096 };
 
 static int faults;
 
@@ -79,20 +79,25 @@ static int areas_are(const char *kind)
     return areas != NULL && strcmp(areas, kind) == 0;
 }
 
+/* What may be done with all pages of an area but the first and the last. */
+static void allow(const struct area *a, int access)
+{
+    if (a->pages == MAP_FAILED || mprotect((uint8_t *)a->pages + PAGE, a->pages_len - 2 * PAGE, access) != 0) {
+        printf("no pages\n");
+        exit(1);
+    }
+}
+
 /* Whole pages between two that may not be touched; the area is at their end, every second time at their start. */
 static uint8_t *get_pages(struct area *a)
 {
     static int at_start;
-    const size_t page = 4096;
-    size_t inner = (a->len + page) / page * page;
-    a->pages_len = inner + 2 * page;
+    size_t inner = (a->len + PAGE) / PAGE * PAGE;
+    a->pages_len = inner + 2 * PAGE;
     a->pages = mmap(NULL, a->pages_len, PROT_NONE, MAP_PRIVATE | MAP_ANONYMOUS, -1, 0);
-    if (a->pages == MAP_FAILED || mprotect((uint8_t *)a->pages + page, inner, PROT_READ | PROT_WRITE) != 0) {
-        printf("no pages\n");
-        exit(1);
-    }
+    allow(a, PROT_READ | PROT_WRITE);
     at_start = !at_start;
-    return (uint8_t *)a->pages + page + (at_start ? 0 : inner - a->len);
+    return (uint8_t *)a->pages + PAGE + (at_start ? 0 : inner - a->len);
 }
 
 static struct area get_area(size_t len, size_t guard)
@@ -123,6 +128,20 @@ struct area area_copy(const void *bytes, size_t len)
         memcpy(a.block, bytes, len);
         memcpy(a.before, bytes, len);
     }
+    if (a.pages != NULL)
+        allow(&a, PROT_READ);
+    return a;
+}
+
+struct area area_reserved(size_t more)
+{
+    const size_t four_gib = (size_t)1 << 31 << 1;
+    struct area a = { NULL, four_gib + more, NULL, NULL, 0, NULL, four_gib + more };
+    void *pages = mmap(NULL, a.len, PROT_READ, MAP_PRIVATE | MAP_ANONYMOUS | MAP_NORESERVE, -1, 0);
+    if (four_gib == 0 || pages == MAP_FAILED)
+        puts("lengths above 32 bits were not tried: there is no memory of that length to reserve");
+    else
+        a.bytes = a.block = a.pages = pages;
     return a;
 }
 

@@ -28,7 +28,8 @@ uint32_t random_below(uint32_t n);
 /*
  * Areas. One to write to has random bytes in it and guard bytes around it. The word AREAS of the environment asks for
  * other ones: with "exact" each area is a block of its own of just its length, and one to write to has nothing written
- * in it, for valgrind to watch; with "pages" it ends at, or starts from, a page that may not be touched.
+ * in it, for valgrind to watch; with "pages" it ends at, or starts from, a page that may not be touched, and one to read
+ * from may not be written to.
  */
 struct area {
     uint8_t *bytes;
@@ -41,6 +42,7 @@ struct area {
 
 struct area area_new(size_t len);
 struct area area_copy(const void *bytes, size_t len); /* one to read from */
+struct area area_reserved(size_t more);               /* 4 GiB and more to read from, zeros that are only reserved; NULL if there are none */
 int area_kept(const struct area *a, size_t from);     /* bytes from there on and the guards are as they were */
 int area_same(const struct area *a);                  /* an area to read from is as it was */
 int area_zero(const struct area *a, size_t len);      /* that many bytes are zero */
@@ -103,6 +105,7 @@ extern uint8_t image[2560], list[4 * (PAIRS + 8)];
 extern size_t image_len, list_len;
 
 void use(const struct table *t); /* a table comes into force, without a list */
+struct table table_in_force(void); /* that of an accepted image */
 void put_pair(size_t k, int from, int to);
 void add_pair(int from, int to);
 int from_of(size_t k);
@@ -110,6 +113,8 @@ int to_of(size_t k);
 void alike(const char *text);    /* a list as text, two letters a pair: "ba" says that b counts as a */
 void fill_list(size_t pairs);    /* pairs of moves that no table here makes */
 void random_list(void);          /* pairs of moves of random tables, and of moves that no rule makes */
+void list_of_any_bytes(void);    /* of any length; often refused */
+void damage_image(void);         /* perhaps changes a byte of it, and perhaps a checksum no longer fits */
 void shuffle_pairs(void);
 int counted(int move);           /* the number that a move counts as */
 struct table replaced(const struct table *t); /* with its moves replaced */
@@ -125,6 +130,7 @@ int32_t of_two(call_of_two *call, const uint8_t *first, size_t m, const uint8_t 
 int refusal_of_image(const uint8_t *image, size_t len);
 int refusal_of_list(uint32_t jobs, const uint8_t *rules, size_t len);
 int refusal_of_pairs(void);
+int refusal_in_force(void);      /* that of the image in force, or else that of the list */
 
 /* An image comes into force that is refused with this number, 2 to 7, or accepted with 0; or one with a set of defects, bit k for refusal k. */
 void use_image_refused(int refusal);
@@ -136,5 +142,6 @@ int first_refusal(int image_refusal, int set);
 int of_two_or_fewer(int set);
 void list_with(int set);         /* a list with the set's defects comes into force */
 void every_defect(int sets, void (*answered)(int refusal, int set)); /* for an image of each refusal and of none, and every set of defects */
+void every_image(void (*answered)(int refusal)); /* for an image with each set of defects, by its first one's refusal */
 
 #endif

@@ -3,10 +3,8 @@
 #include "check.h"
 #include "gindrazoma.h"
 
-#include <stdio.h>
 #include <stdlib.h>
 #include <string.h>
-#include <sys/mman.h>
 #include <unistd.h>
 
 /* Answers; the place at which the log leaves the plan is added to AT. */
@@ -764,23 +762,19 @@ static void bytes_of_logs(void)
     free(bytes);
 }
 
-/* Lengths whose low 32 bits are 0, 2 or 256, in memory that is only reserved; not every machine gives it. */
+/* Lengths whose low 32 bits are 0, 2 or 256. */
 static void lengths_above_32_bits(void)
 {
-    const size_t four_gib = (size_t)1 << 31 << 1;
-    uint8_t plan = 0;
-    void *bytes = mmap(NULL, four_gib + 256, PROT_READ, MAP_PRIVATE | MAP_ANONYMOUS | MAP_NORESERVE, -1, 0);
-    if (four_gib == 0 || bytes == MAP_FAILED) {
-        puts("lengths above 32 bits were not tried: there is no memory of that length to reserve");
-        return;
-    }
+    static const size_t less[] = { 256, 254, 0 };
+    struct area zeros = area_reserved(256);
     struct table t = table_letters(1, 1);
+    uint8_t plan = 0;
     use(&t);
-    CHECK_EQ(quick_bytes(&plan, 1, bytes, four_gib), -11);
-    CHECK_EQ(quick_bytes(&plan, 1, bytes, four_gib + 2), -11);
-    CHECK_EQ(quick_bytes(&plan, 1, bytes, four_gib + 256), -11);
-    CHECK_EQ(quick_bytes(&plan, 0, bytes, four_gib), -11);
-    munmap(bytes, four_gib + 256);
+    for (size_t i = 0; i < 3 && zeros.bytes != NULL; i++) {
+        CHECK_EQ(quick_bytes(&plan, 1, zeros.bytes, zeros.len - less[i]), -11);
+        CHECK_EQ(quick_bytes(&plan, 0, zeros.bytes, zeros.len - less[i]), -11);
+    }
+    area_free(&zeros);
 }
 
 /* Plans of norm 4,096 and 4,097, of many jobs and of few; A: a; I: a 511 times; J: b, then I; K: c. */
@@ -1560,20 +1554,19 @@ static void first_defect_answered(int refusal, int set)
         CHECK_EQ(replay_bytes(plan, n, bytes, set & MANY_MOVES ? 257 : 1, space_len), -first);
 }
 
+/* An image alone, and with all other defects. */
+static void image_answered(int refusal)
+{
+    first_defect_answered(refusal, 0);
+    first_defect_answered(refusal, SETS - 1 - SHORT_SPACE);
+    first_defect_answered(refusal, SETS - 1);
+}
+
 /* For every image and every set of defects, the one that comes first in the order is answered. */
 static void order_of_refusals(void)
 {
     every_defect(SETS, first_defect_answered);
-    for (int images = 4; images < 256; images += 4) { /* images with several defects, alone and with all others */
-        int refusal = 2;
-        while ((images >> refusal & 1) == 0)
-            refusal++;
-        use_image_with(images);
-        CHECK_EQ(refusal_of_image(image, image_len), refusal);
-        first_defect_answered(refusal, 0);
-        first_defect_answered(refusal, SETS - 1 - SHORT_SPACE);
-        first_defect_answered(refusal, SETS - 1);
-    }
+    every_image(image_answered);
 }
 
 /* Damaged images, lists, plans and logs of any bytes: the first refusal, or the answer. */
@@ -1585,24 +1578,14 @@ static void random_refusals(void)
         uint8_t plan[3] = { 0, 1, 2 }, bytes[270];
         size_t len = random_below(3) ? 2 * random_below(8) : random_below(sizeof bytes), n = random_below(4);
         use(&t);
-        size_t block = random_below((uint32_t)(image_len / 512));
-        if (random_below(3) == 0)
-            image[512 * block + random_below(512)] = (uint8_t)random_below(70);
-        if (random_below(4) != 0)
-            seal(image + 512 * block);
+        damage_image();
         if (random_below(5) == 0)
             plan[random_below(3)] = (uint8_t)(24 + random_below(232));
-        if (random_below(2) == 0) {
-            list_len = random_below(4) == 0 ? random_below(sizeof list) : 4 * random_below(PAIRS + 2);
-            uint32_t spread = 1 + random_below(256);
-            for (size_t i = 0; i < list_len; i++)
-                list[i] = (uint8_t)random_below(spread);
-        }
+        if (random_below(2) == 0)
+            list_of_any_bytes();
         for (size_t i = 0; i < len; i++)
             bytes[i] = i % 2 == 0 ? (uint8_t)(random_below(9) ? 'a' : 'b') : random_below(9) == 0;
-        int refusal = refusal_of_image(image, image_len);
-        if (refusal == 0)
-            refusal = refusal_of_pairs();
+        int refusal = refusal_in_force();
         for (size_t i = 0; i < n && refusal == 0; i++)
             refusal = plan[i] >= 24 ? 8 : 0;
         if (refusal == 0 && (len > 256 || len % 2 != 0))
@@ -1614,8 +1597,7 @@ static void random_refusals(void)
             continue;
         }
         CHECK(got >= 0 && got < AT + LONGEST);
-        for (size_t r = 0; r < t.rules; r++) /* an image that was changed may be accepted too */
-            memcpy(t.bytes + 8 * r, image + 512 * (r / 63) + 2 + 8 * (r % 63), 8);
+        t = table_in_force(); /* an image that was changed may be accepted too */
         u = replaced(&t);
         struct log l = { len / 2, { 0 } };
         memcpy(l.bytes, bytes, len);

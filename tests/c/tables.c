@@ -229,6 +229,16 @@ void use(const struct table *t)
     list_len = 0;
 }
 
+struct table table_in_force(void)
+{
+    struct table t = table_new(image[0]);
+    for (const uint8_t *block = image; block < image + image_len; block += 512) {
+        memcpy(t.bytes + 8 * t.rules, block + 2, 8 * block[1]);
+        t.rules += block[1];
+    }
+    return t;
+}
+
 void put_pair(size_t k, int from, int to)
 {
     const int pair[4] = { from % 256, from / 256, to % 256, to / 256 };
@@ -293,6 +303,23 @@ void random_list(void)
         add_pair(order[i], order[froms + random_below((uint32_t)(MOVES - froms))]);
     shuffle_pairs();
     CHECK_EQ(refusal_of_pairs(), 0);
+}
+
+void list_of_any_bytes(void)
+{
+    list_len = random_below(4) == 0 ? random_below(sizeof list) : 4 * random_below(PAIRS + 2);
+    uint32_t spread = 1 + random_below(256);
+    for (size_t i = 0; i < list_len; i++)
+        list[i] = (uint8_t)random_below(spread);
+}
+
+void damage_image(void)
+{
+    uint8_t *block = image + 512 * random_below((uint32_t)(image_len / 512));
+    if (random_below(3) == 0)
+        block[random_below(512)] = (uint8_t)random_below(70);
+    if (random_below(4) != 0)
+        seal(block);
 }
 
 int counted(int move)
@@ -434,6 +461,12 @@ int refusal_of_pairs(void)
     return 0;
 }
 
+int refusal_in_force(void)
+{
+    int refusal = refusal_of_image(image, image_len);
+    return refusal != 0 ? refusal : refusal_of_pairs();
+}
+
 void use_image_with(int set)
 {
     struct table t = table_doubling(set >> 7 & 1 ? 10 : 9);
@@ -487,5 +520,17 @@ void every_defect(int sets, void (*answered)(int refusal, int set))
         for (int set = 0; set < sets; set++)
             if (!small_run() || (of_two_or_fewer(set) && (refusal < 3 || refusal == 7)))
                 answered(refusal, set);
+    }
+}
+
+void every_image(void (*answered)(int refusal))
+{
+    for (int set = 4; set < 256; set += 4) {
+        int refusal = 2;
+        while ((set >> refusal & 1) == 0)
+            refusal++;
+        use_image_with(set);
+        CHECK_EQ(refusal_of_image(image, image_len), refusal);
+        answered(refusal);
     }
 }
