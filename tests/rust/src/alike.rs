@@ -31,6 +31,15 @@ pub fn moves_of(table: &Table) -> Vec<u16> {
     table.rules.iter().map(|r| r.action).collect::<BTreeSet<u16>>().into_iter().collect()
 }
 
+/// A table with a list, or without one.
+pub fn listed(rng: &mut Rng, made: Made) -> Listed {
+    if rng.once_in(4) {
+        Listed { raw: made.table.clone(), pairs: Vec::new(), made }
+    } else {
+        Listed::new(rng, made)
+    }
+}
+
 impl Listed {
     pub fn new(rng: &mut Rng, made: Made) -> Listed {
         if rng.once_in(2) {

@@ -51,7 +51,7 @@ fn put(rng: &mut Rng, table: &mut Table, i: usize, rule: Rule) {
 }
 
 /// Another low byte of the move, another high byte, another job, a shorter row, a longer one, another job in it.
-fn one_thing_changed(rng: &mut Rng, jobs: usize, rule: &Rule) -> Rule {
+pub fn one_thing_changed(rng: &mut Rng, jobs: usize, rule: &Rule) -> Rule {
     let mut near = rule.clone();
     let job = rng.below(jobs) as u8;
     match rng.below(6) {

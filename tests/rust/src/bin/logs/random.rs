@@ -1,7 +1,7 @@
 //! Cases with random numbers.
 use crate::calls::Calls;
 use gindrazoma::raw::{nth_move, shortest_run, MOVE_MAX, RUN_MAX};
-use outside::alike::{Listed, Pair, PAIRS_MAX};
+use outside::alike::{listed, Listed, Pair, PAIRS_MAX};
 use outside::damage::{damaged, damaged_list, damaged_log};
 use outside::harness::Outcome;
 use outside::logs::{ambiguous, any_made, counted, crowded, cut_to_answer, run, run_of_length, some_logs, some_move, varied};
@@ -14,15 +14,6 @@ use outside::rng::Rng;
 use outside::shapes::{Made, Shape, EDGES};
 use outside::space::SPACE;
 use outside::{ensure, ensure_eq};
-
-/// A table with a list, or without one.
-fn listed(rng: &mut Rng, made: Made) -> Listed {
-    if rng.once_in(4) {
-        Listed { raw: made.table.clone(), pairs: Vec::new(), made }
-    } else {
-        Listed::new(rng, made)
-    }
-}
 
 fn calls_of(listed: &Listed) -> Calls {
     Calls::new(&listed.raw, &listed.pairs)
