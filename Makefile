@@ -30,6 +30,7 @@ STAGES += norms     # gindrazoma_plan_norm, gindrazoma_nth_move, gindrazoma_shor
 STAGES += sameness  # gindrazoma_compare, gindrazoma_prime_form
 STAGES += alike     # gindrazoma_compare_alike, gindrazoma_prime_form_alike
 STAGES += logs      # gindrazoma_replay_log
+STAGES += outcomes  # gindrazoma_deterministic
 STAGES += whole     # every call of the header together
 STAGES += planlook  # the program, and what is installed
 
@@ -40,6 +41,7 @@ CHECKS_norms    = $(call library-checks,norms)
 CHECKS_sameness = $(call library-checks,sameness)
 CHECKS_alike    = $(call library-checks,alike)
 CHECKS_logs     = $(call library-checks,logs)
+CHECKS_outcomes = $(call library-checks,outcomes)
 CHECKS_whole    = symbols names c-load memory-c-load plain example
 CHECKS_planlook = samples rust-look install
 library-checks  = c-$(1) pages-c-$(1) memory-c-$(1) rust-$(1) memory-rust-$(1) wrapper-$(1)
@@ -120,8 +122,8 @@ callgrind: $(ARCHIVE)
 
 soak: $(ARCHIVE)
 	@$(CARGO) build -q --release -p outside
-	@status=0; for program in images norms sameness alike logs; do \
-		env SECONDS=$$(($(SECONDS) / 5)) $(RUST)/$$program || status=1; \
+	@status=0; for program in images norms sameness alike logs outcomes; do \
+		env SECONDS=$$(($(SECONDS) / 6)) $(RUST)/$$program || status=1; \
 	done; exit $$status
 
 ages: old-archive $(ARCHIVE)
