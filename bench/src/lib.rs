@@ -5,4 +5,5 @@ mod hostile;
 mod hostile_runs;
 pub mod inputs;
 pub mod logs;
+pub mod outcomes;
 pub mod pairs;

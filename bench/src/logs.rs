@@ -37,7 +37,7 @@ fn under_list(replay: Replay, areas: &[u8], (plan, logs): &Pair, space: &mut [u8
 }
 
 /// Both images have one length.
-fn image_len(areas: &[u8]) -> usize {
+pub(crate) fn image_len(areas: &[u8]) -> usize {
     512 * usize::from(areas[508])
 }
 
@@ -82,7 +82,7 @@ fn with_run(rng: &mut Rng, table: Table) -> (Table, Plan, Log) {
 }
 
 /// 24 jobs of norm 1, and so many rules, each with a move of its own.
-fn a_move_each(rules: usize) -> Table {
+pub(crate) fn a_move_each(rules: usize) -> Table {
     let row = |i: usize| [i, 7 * i, 5 * i, 11 * i].map(|j| (j % 24) as u8)[..if i < 24 { 0 } else { 1 + i % 4 }].to_vec();
     Table { jobs: 24, rules: (0..rules).map(|i| rule((i % 24) as u8, 97 + 211 * i as u16, &row(i))).collect() }
 }

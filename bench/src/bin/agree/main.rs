@@ -1,16 +1,18 @@
 //! The plain programs beside the second comparer, the second way to first runs and the replay by all plans that are reached: what the
 //! benchmark measures against answers rightly, and writes moves by the definitions. The library and they on the plans, the alike
-//! lists and the logs that are timed, which are as they shall be.
+//! lists and the logs that are timed, which are as they shall be. The library on the tables that are asked for a choice of outcome.
 mod logs;
 
 use bench::alike::{areas, ALIKE, LISTS};
 use bench::calls::{runs, COMPARE, RUN};
 use bench::inputs::{hostile_runs, single_table, Input, SINGLE_TABLES};
-use bench::logs::LOG_TABLES;
+use bench::logs::{self as timed_logs, LOG_TABLES};
+use bench::outcomes::{names, outcome_input, OUTCOME};
 use bench::pairs::{place_of, NEAR, PLAN_NORM};
 use outside::alike::{self, moves_of, PAIRS_MAX};
 use outside::first_run::{bytes_of, first_run};
 use outside::harness::{Outcome, Suite};
+use outside::outcomes::without_choice;
 use outside::refusals::of_alike;
 use outside::repeated::repeated;
 use outside::rng::Rng;
@@ -47,6 +49,9 @@ fn main() -> ExitCode {
     }
     for (index, (name, ..)) in LOG_TABLES.iter().enumerate() {
         suite.fixed(&format!("log, {name}"), move || logs::timed(index));
+    }
+    for (index, name) in names().into_iter().enumerate() {
+        suite.fixed(&format!("outcome, {name}"), move || outcome(index));
     }
     suite.finish()
 }
@@ -195,4 +200,17 @@ fn with_norms(second: &Second, plan: &[u8]) -> Vec<(u64, u8)> {
             (norm - second.norms[j as usize], j)
         })
         .collect()
+}
+
+/// The library answers rightly on a table that is asked for a choice, without a list and under one; those besides the tables that are
+/// timed alone have none.
+fn outcome(index: usize) -> Outcome {
+    let input = outcome_input(index);
+    let without = without_choice(&input.table);
+    ensure!(without || index < SINGLE_TABLES.len(), "{:?} has a choice", input.table);
+    for (name, call) in OUTCOME {
+        let answer = call(&timed_logs::areas(&input.table), &input.pairs[0], &mut []);
+        ensure_eq!(answer, i32::from(without), "{name}: {:?}", input.table);
+    }
+    Ok(())
 }
