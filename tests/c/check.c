@@ -88,16 +88,19 @@ static void allow(const struct area *a, int access)
     }
 }
 
-/* Whole pages between two that may not be touched; the area is at their end, every second time at their start. */
+/*
+ * Whole pages between two that may not be touched; the area is at their end, or as often at their start. That goes by no turn: if a
+ * call has an even number of areas, each of them would stand at the same end every time.
+ */
 static uint8_t *get_pages(struct area *a)
 {
-    static int at_start;
+    static uint32_t turns;
     size_t inner = (a->len + PAGE) / PAGE * PAGE;
     a->pages_len = inner + 2 * PAGE;
     a->pages = mmap(NULL, a->pages_len, PROT_NONE, MAP_PRIVATE | MAP_ANONYMOUS, -1, 0);
     allow(a, PROT_READ | PROT_WRITE);
-    at_start = !at_start;
-    return (uint8_t *)a->pages + PAGE + (at_start ? 0 : inner - a->len);
+    turns += 0x9e3779b9u;
+    return (uint8_t *)a->pages + PAGE + (turns >> 31 ? 0 : inner - a->len);
 }
 
 static struct area get_area(size_t len, size_t guard)
