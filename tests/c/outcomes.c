@@ -564,13 +564,19 @@ static void lengths_of_images_and_lists(void)
         }
 }
 
-/* Lengths whose low 32 bits are 0, 4 or 512. */
-static void lengths_above_32_bits(void)
+/* Lengths whose low 8, 16 or 32 bits are 0 or those of an accepted image or list. */
+static void lengths_beyond_8_16_and_32_bits(void)
 {
-    static const size_t less[] = { 512, 508, 0 };
+    static const size_t longer[] = { 256, 260, 384, 65536, 65540, 65536 + 128, 65536 + 512 }, less[] = { 512, 508, 0 };
+    static uint8_t bytes[65536 + 512];
     struct area zeros = area_reserved(512);
     struct table t = table_t();
     use(&t);
+    memcpy(bytes, image, image_len);
+    for (size_t i = 0; i < sizeof longer / sizeof longer[0]; i++) {
+        CHECK_EQ(gindrazoma_deterministic(bytes, longer[i], list, 0), -2);
+        CHECK_EQ(gindrazoma_deterministic(image, image_len, bytes, longer[i]), -12);
+    }
     for (int i = 0; i < 3 && zeros.bytes != NULL; i++) {
         CHECK_EQ(gindrazoma_deterministic(image, image_len, zeros.bytes, zeros.len - less[i]), -12);
         CHECK_EQ(gindrazoma_deterministic(zeros.bytes, zeros.len - less[i], list, 0), -2);
@@ -721,7 +727,7 @@ static const struct check_case cases[] = {
     { "order of refusals: every set of defects", order_of_refusals },
     { "refusals come before choices", refusals_before_choices },
     { "lengths of images and lists", lengths_of_images_and_lists },
-    { "lengths above 32 bits", lengths_above_32_bits },
+    { "lengths beyond 8, 16 and 32 bits", lengths_beyond_8_16_and_32_bits },
     { "clashes at each two places of a list", clashes_at_each_two_places },
     { "random lists and refused images", random_refusals },
     { "NULL with length 0", null_with_length_0 },
