@@ -2,22 +2,34 @@
 use crate::calls::Program;
 use crate::inputs::{single_table, Input, SINGLE_TABLES};
 use crate::logs::{a_move_each, image_len};
-use gindrazoma::raw::deterministic;
 use outside::table::{rule, Table};
 
-/// The call without a list, and under one (+), on the areas of log-calls.
-pub const OUTCOME: [Program; 2] = [
-    ("library", |areas, _, _| deterministic(&areas[..image_len(areas)], &[])),
-    ("library+", |areas, _, _| {
-        let (raw, alike) = areas[image_len(areas)..].split_at(image_len(areas));
-        deterministic(raw, alike)
-    }),
+/// The test without a list by the library and by the plain program, and under a list by both (+), on the areas of log-calls.
+pub const OUTCOME: [Program; 4] = [
+    ("library", |areas, _, _| without_list(gindrazoma::raw::deterministic, areas)),
+    ("plain", |areas, _, _| without_list(plain::deterministic, areas)),
+    ("library+", |areas, _, _| under_list(gindrazoma::raw::deterministic, areas)),
+    ("plain+", |areas, _, _| under_list(plain::deterministic, areas)),
 ];
 
+type Test = fn(&[u8], &[u8]) -> i32;
+
+#[inline]
+fn without_list(test: Test, areas: &[u8]) -> i32 {
+    test(&areas[..image_len(areas)], &[])
+}
+
+#[inline]
+fn under_list(test: Test, areas: &[u8]) -> i32 {
+    let (raw, alike) = areas[image_len(areas)..].split_at(image_len(areas));
+    test(raw, alike)
+}
+
 /// Tables without a choice, besides those that are timed alone.
-pub const OUTCOME_TABLES: [(&str, fn() -> Table); 3] = [
+pub const OUTCOME_TABLES: [(&str, fn() -> Table); 4] = [
     ("252 rules, a move each", || a_move_each(252)),
-    ("252 moves in one bucket", one_bucket),
+    ("252 moves, low byte 0", || low_byte_0(1)),
+    ("126 such moves, each twice", || low_byte_0(2)),
     ("one rule 252 times", || Table { jobs: 1, rules: vec![rule(0, 97, &[]); 252] }),
 ];
 
@@ -35,9 +47,7 @@ pub fn outcome_input(index: usize) -> Input {
     Input { name: names()[index].to_string(), image: table.image(), table, pairs: vec![Default::default()] }
 }
 
-/// One job with 252 moves of which no two are equal, and the sums of whose bytes are alike up to multiples of 64: a program that sorts
-/// rules by such sums still compares each two. Four moves each have one low byte.
-fn one_bucket() -> Table {
-    let action = |i: u16| i / 4 + 256 * ((64 - i / 4 + 64 * (i % 4)) % 256);
-    Table { jobs: 1, rules: (0..252).map(|i| rule(0, action(i), &[])).collect() }
+/// One job with 252 rules whose moves differ in the high byte alone, each so many times: the first eight digits of a move tell nothing.
+fn low_byte_0(times: u16) -> Table {
+    Table { jobs: 1, rules: (0..252).map(|i| rule(0, 256 * (i / times), &[])).collect() }
 }

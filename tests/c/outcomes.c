@@ -186,7 +186,7 @@ static void every_move(void)
     }
 }
 
-enum { FULL = 252, WAYS = 6 };
+enum { FULL = 252, WAYS = 8 };
 
 /* The k-th of 252 different moves, by several ways to spread them. */
 static int nth_move(int way, int k)
@@ -197,6 +197,8 @@ static int nth_move(int way, int k)
     case 2: return 256 * k;                                           /* one low byte */
     case 3: return k + 256 * ((256 - k) % 256);                       /* the sum of the bytes is 0 or 256 */
     case 4: return 257 * k;                                           /* equal bytes */
+    case 5: return 64 * k;                                            /* the six lowest digits are 0 */
+    case 6: return 64 * (1023 - 4 * k);                               /* the eight lowest are equal, from the greatest down */
     default: return 65535 - 260 * k;
     }
 }

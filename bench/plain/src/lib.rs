@@ -1,7 +1,7 @@
 //! The calls of gindrazoma as an ordinary Rust program: the baseline of the benchmark. Compare and prime form are there
 //! three times: by document 01's method as one writes it at first (`first`) and with every choice of speed (`base`), and
 //! by the library's method (`rows`); the shortest run twice, as it is written at first and with every choice of speed; the replay of a
-//! log once, under an alike list. Answers, refusals and areas are those of include/gindrazoma.h.
+//! log and the test for a choice of outcome once, under an alike list. Answers, refusals and areas are those of include/gindrazoma.h.
 #![no_std]
 #![forbid(unsafe_code)]
 
@@ -17,6 +17,7 @@ mod index;
 mod judge;
 mod logs;
 mod norms;
+mod outcomes;
 mod region;
 pub mod rows;
 mod runs;
@@ -115,6 +116,14 @@ pub fn replay_log(image: &[u8], alike: &[u8], plan: &[u8], log: &[u8], space: &m
         alike.replace(table.actions());
         alike.replace(log.moves());
         Ok(logs::replay(&table, plan, &log, space))
+    })
+}
+
+pub fn deterministic(image: &[u8], alike: &[u8]) -> i32 {
+    answer(|| {
+        let (mut table, _) = checked(image)?;
+        Alike::load(alike)?.replace(table.actions());
+        Ok(outcomes::without_choice(&table) as i32)
     })
 }
 

@@ -5,6 +5,7 @@ use bench::alike::{areas, ALIKE, LISTS};
 use bench::calls::{runs, Program, COMPARE, NORM, RUN};
 use bench::inputs::{growth, hostile, hostile_runs, light_and_full, single_table, Input, Pair, SINGLE_TABLES};
 use bench::logs::{self, log_input, LOG, LOG_TABLES};
+use bench::outcomes::{names as outcome_names, outcome_input, OUTCOME};
 use outside::rng::Rng;
 use outside::second::Second;
 use plain::Steps;
@@ -36,6 +37,7 @@ fn main() -> ExitCode {
     let most_of_runs = bench.shortest_runs(seed);
     let most_of_lists = bench.alike_lists(seed);
     let most_of_logs = bench.logs();
+    bench.outcomes();
     let differ = bench.differ;
     let judged = [
         ("1,000 comparisons over one table take", most, "times as long as in the fastest plain program", BOUND),
@@ -208,19 +210,32 @@ impl Bench {
         println!("{:<28}{}{:>8}{:>8}", "table", names(&LOG), "/plain", "/plain+");
         let mut most: f64 = 0.0;
         for (index, (_, times, _)) in LOG_TABLES.iter().enumerate() {
-            let mut input = log_input(index);
-            input.image = logs::areas(&input.table);
-            for pair in &input.pairs {
-                let answers = LOG.map(|(_, call)| call(&input.image, pair, &mut self.space));
-                self.differ += usize::from(answers != [answers[0]; 4]);
-            }
-            let [library, plain, library_listed, plain_listed] = average(*times, &LOG, std::slice::from_ref(&input));
-            let ratios = [library / plain, library_listed / plain_listed];
-            let times = columns(&[library, plain, library_listed, plain_listed], 9);
-            println!("{:<28}{times}{}", input.name, columns(&ratios, 7));
-            most = ratios.into_iter().fold(most, f64::max);
+            most = self.with_and_without_list(*times, &LOG, log_input(index)).into_iter().fold(most, f64::max);
         }
         most
+    }
+
+    fn outcomes(&mut self) {
+        println!("\nwhether a table is without a choice of outcome, without an alike list and under one of 32 pairs (+):");
+        println!("microseconds a call, the library's ratios");
+        println!("{:<28}{}{:>8}{:>8}", "table", names(&OUTCOME), "/plain", "/plain+");
+        for index in 0..outcome_names().len() {
+            self.with_and_without_list(2000, &OUTCOME, outcome_input(index));
+        }
+    }
+
+    /// The library's ratio to the plain program, without a list and under one.
+    fn with_and_without_list(&mut self, times: usize, programs: &[Program; 4], mut input: Input) -> [f64; 2] {
+        input.image = logs::areas(&input.table);
+        for pair in &input.pairs {
+            let answers = programs.map(|(_, call)| call(&input.image, pair, &mut self.space));
+            self.differ += usize::from(answers != [answers[0]; 4]);
+        }
+        let [library, plain, library_listed, plain_listed] = average(times, programs, std::slice::from_ref(&input));
+        let ratios = [library / plain, library_listed / plain_listed];
+        let times = columns(&[library, plain, library_listed, plain_listed], 9);
+        println!("{:<28}{times}{}", input.name, columns(&ratios, 7));
+        ratios
     }
 }
 
