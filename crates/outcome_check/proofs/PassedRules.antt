@@ -3,12 +3,13 @@
 use mathlib.Core.Path.{_≡_, refl, sym, ap, _∙_, subst}
 use mathlib.Core.Bool.{true, false}
 use mathlib.Core.List.{List}
-use Prim.Native.Nat.{ℕ, suc, _≤_, _<_}
+use Prim.Native.Nat.{ℕ, _+_, _≤_, _<_}
 use native.Mathlib.Omega.{arith}
-use lib.Dec.{eqb, ltb}
+use lib.Dec.{eqb}
 use lib.ListN.{length, getD, set, replicate, length-set, length-replicate, getD-replicate}
 use lib.Seq.{getD-set-same, getD-set-other}
-use borrow.Author.Tests.{eqb-true, eqb-false, ltb-true, ltb-false}
+use borrow.Author.Count.{below-more}
+use borrow.Author.Tests.{eqb-true, eqb-false}
 use Rattle.bpa.specs.Plans.{Rule}
 use Rattle.bpa.proofs.Basics.Cases.{by-test, is-false}
 use Rattle.rules.specs.Places.{rule-at, rule-count, table-of}
@@ -33,33 +34,28 @@ passing-start rs = record {
   single = λ e d l. absurd (omega (arith, l));
 }
 
--- what holds of each rule before i and of i holds of each before the next
-up-to : (i : ℕ) (P : ℕ → Type 0) → ((e : ℕ) → e < i → P e) → P i → (e : ℕ) → e < suc i → P e
-up-to i P before this e l =
-    by-test (ltb e i) (λ t. before e (ltb-true e i t)) (λ f. subst P (let g = ltb-false e i f in omega (arith, l)) this)
-
 module _ (rs slots : List ℕ) (i : ℕ) (p : Passing rs slots i) where
   abbrev rule : ℕ → Rule
   rule = rule-at rs
 
   -- one more rule: each that begins as it does has its row
   single-next : ((e : ℕ) → e < i → SameStart (rule e) (rule i) → rule e .after ≡ rule i .after) →
-      (e d : ℕ) → e < suc i → d < suc i → SameStart (rule e) (rule d) → rule e .after ≡ rule d .after
+      (e d : ℕ) → e < i + 1 → d < i + 1 → SameStart (rule e) (rule d) → rule e .after ≡ rule d .after
   single-next this e d l k =
-      up-to i (λ (x : ℕ). SameStart (rule x) (rule d) → rule x .after ≡ rule d .after)
+      below-more (λ (x : ℕ). SameStart (rule x) (rule d) → rule x .after ≡ rule d .after) i
       (λ x h.
-      up-to i (λ (y : ℕ). SameStart (rule x) (rule y) → rule x .after ≡ rule y .after) (λ y m. p .single x y h m) (this x h) d k)
-      (up-to i (λ (y : ℕ). SameStart (rule i) (rule y) → rule i .after ≡ rule y .after)
+      below-more (λ (y : ℕ). SameStart (rule x) (rule y) → rule x .after ≡ rule y .after) i (λ y m. p .single x y h m) (this x h) d k)
+      (below-more (λ (y : ℕ). SameStart (rule i) (rule y) → rule i .after ≡ rule y .after) i
       (λ y m s. sym (this y m (record { job = sym (s .job); move = sym (s .move) }))) (λ s. refl) d k)
       e l
 
   -- a rule that begins as an earlier one and has its row
-  pub passing-again : (r : ℕ) → r < i → SameStart (rule r) (rule i) → rule r .after ≡ rule i .after → Passing rs slots (suc i)
+  pub passing-again : (r : ℕ) → r < i → SameStart (rule r) (rule i) → rule r .after ≡ rule i .after → Passing rs slots (i + 1)
   passing-again r l s e = record {
     size = p .size;
     rising = λ x h k. let (before, above) = p .rising x h k in (omega (arith, before), above);
     kept =
-        up-to i (λ (x : ℕ). (d : ℕ) × Kept rs slots d × (rule d ≡ rule x)) (p .kept)
+        below-more (λ (x : ℕ). (d : ℕ) × Kept rs slots d × (rule d ≡ rule x)) i (p .kept)
         (let (d, k, same) = p .kept r l in (d, k, same ∙ (λ j. record { job = s .job j; move = s .move j; after = e j })));
     single = single-next (λ x h b. p .single x r h l (record { job = b .job ∙ sym (s .job); move = b .move ∙ sym (s .move) }) ∙ e);
   }
@@ -72,7 +68,7 @@ module _ (rs slots : List ℕ) (i : ℕ) (p : Passing rs slots i) where
     new : (e : ℕ) → e < i → SameStart (rule e) (rule i) → ⊥
     new e l s = let (d, k, same) = p .kept e l in f .none d k (subst (λ (r : Rule). SameStart r (rule i)) (sym same) s)
 
-    rising-filled : Rising (set slots slot i) (suc i)
+    rising-filled : Rising (set slots slot i) (i + 1)
     rising-filled s l h =
         by-test (eqb s slot)
         (λ t.
@@ -84,12 +80,12 @@ module _ (rs slots : List ℕ) (i : ℕ) (p : Passing rs slots i) where
         let (before, above) = p .rising s l (omega (arith, held, h)) in
         (omega (arith, held, before), omega (arith, held, above)))
 
-    pub passing-new : Passing rs (set slots slot i) (suc i)
+    pub passing-new : Passing rs (set slots slot i) (i + 1)
     passing-new = record {
       size = length-set slots slot i ∙ p .size;
       rising = rising-filled;
       kept =
-          up-to i (λ (x : ℕ). (d : ℕ) × Kept rs (set slots slot i) d × (rule d ≡ rule x))
+          below-more (λ (x : ℕ). (d : ℕ) × Kept rs (set slots slot i) d × (rule d ≡ rule x)) i
           (λ x h. let (d, k, same) = p .kept x h in (d, leads-filled slots slot i (f .empty) k, same))
           (i, leads-new slots slot i (f .empty) inside small (f .way), refl);
       single = single-next (λ x h s. absurd (new x h s));

@@ -2,7 +2,6 @@
 use mathlib.Core.Path.{_≡_, sym, _∙_}
 use mathlib.Core.List.{List}
 use Prim.Native.Nat.{ℕ, _-_, _<_}
-use native.Mathlib.Numerals.{add-one}
 use native.Mathlib.Omega.{arith}
 use borrow.Author.Needs.{needs}
 use Rattle.bpa.proofs.Basics.Cases.{never-both}
@@ -55,7 +54,7 @@ loop-again : tie.Need-loop-again Inv-loop μ-loop
 loop-again c =
     let t = turn (c .before) in
     let l = t .before .loop in
-    (l .inv .0, rw add-one (passing-new (rs t) (l .slots) (l .i) (l .inv .1) (c .before .find .result .slot) (empty c) (small t)))
+    (l .inv .0, passing-new (rs t) (l .slots) (l .i) (l .inv .1) (c .before .find .result .slot) (empty c) (small t))
 
 -- another rule was found, and it is an earlier one
 module _ (c : tie.Else1 Inv-loop μ-loop) where
@@ -84,8 +83,7 @@ loop-again-2 c =
     let l = t .before .loop in
     let row = sym (one .rule-after .ensures) ∙ c .before .same-row .ensures .yes (c .if2 .taken) ∙ two .rule-after2 .ensures in (
       l .inv .0,
-      rw add-one
-          (passing-again (rs t) (l .slots) (l .i) (l .inv .1) (found (e .before)) (before e) (e .before .find .ensures .found (before e)) row),
+      passing-again (rs t) (l .slots) (l .i) (l .inv .1) (found (e .before)) (before e) (e .before .find .ensures .found (before e)) row,
     )
 
 returns : tie.Need-returns Inv-loop μ-loop
