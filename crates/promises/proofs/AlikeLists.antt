@@ -148,7 +148,7 @@ same-stays ps t p q b = record {
           λ a v′ s. let (u′, k, r) = g a v′ s in (a, u′, k, refl, r),
         )
 
-accepted : (ps : List Pair) (t : Table) → Accepted t → Accepted (replaced ps t)
+pub accepted : (ps : List Pair) (t : Table) → Accepted t → Accepted (replaced ps t)
 unfolding promised.Replaced-accepted
 accepted ps t k = replaced-accepted ps t .1 k
 

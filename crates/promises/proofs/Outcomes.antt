@@ -5,7 +5,7 @@ use mathlib.Core.List.{List, []}
 use mathlib.Core.Logic.{_↔_}
 use Prim.Native.Nat.{ℕ}
 use lib.IntN.{pos}
-use Rattle.bpa.specs.Plans.{Table, over}
+use Rattle.bpa.specs.Plans.{over}
 use Rattle.bpa.specs.Norms.{norms}
 use Rattle.bpa.specs.Method.{same}
 use Rattle.bpa.proofs.Basics.Cases.{same-test}
@@ -13,7 +13,7 @@ use Rattle.answer.specs.Answer.{one-if, Gives}
 use Rattle.answer.proofs.Results.{result-is}
 use Rattle.refusal.specs.Refusals.{Accepted, AcceptedPlan}
 use Rattle.image.specs.Image.{image-refusal, table-in}
-use Rattle.alike.specs.Alike.{Pair, replaced}
+use Rattle.alike.specs.Alike.{replaced}
 use Rattle.alike_list.specs.AlikeLists.{alike-pairs}
 use Rattle.alike_list.specs.AlikeTables.{alike-table, listed-refusal}
 use Rattle.replacing.proofs.NoList.{no-refusal, no-replacement}
@@ -28,7 +28,7 @@ use Rattle.deterministic.proofs.AlikeRuns.{same-runs-alike, telling-run-alike}
 use Rattle.outcomes.specs.OutcomeCalls.{Determined}
 use Rattle.promises.specs.AlikeLists as alikelists
 use Rattle.promises.specs.Outcomes as promised
-use Rattle.promises.proofs.AlikeLists.{replaced-accepted, source, alike-compare-tells}
+use Rattle.promises.proofs.AlikeLists.{accepted, source, alike-compare-tells}
 use Rattle.promises.proofs.SourceCalls.{told-exactly, answer-given}
 
 -- THE PROPERTY
@@ -72,11 +72,6 @@ unfolding promised.Run-tells
 run-tells t p q k d o oq e = runs.run-tells t (k .good) d p q o oq e
 
 -- UNDER A LIST
-module _ (ps : List Pair) (t : Table) (k : Accepted t) where
-  accepted : Accepted (replaced ps t)
-  unfolding alikelists.Replaced-accepted
-  accepted = replaced-accepted ps t .1 k
-
 pub alike-runs-stay : promised.Alike-runs-stay
 unfolding promised.Alike-runs-stay promised.Runs-stay
 alike-runs-stay ps t p q k b = same-runs-alike ps t p q .0 (runs-stay (replaced ps t) p q (accepted ps t k) b)
