@@ -291,16 +291,18 @@ static void rules_written_again(void)
 static const char *const joining[] = { "BA", "AB", "AZBZ", "BZAZ", "XYBA", "BAXY", "XABA", "AZXYBZ", "BACA" };
 static const char *const keeping[] = { "", "AZ", "BZ", "AYBZ", "ZA", "ZAYB", "XY", "CA", "CB", "ZX", "AYBZCX" };
 
+static void under_lists(const char *const lists[], size_t count, int32_t want)
+{
+    for (size_t i = 0; i < count; i++) {
+        alike(lists[i]);
+        answered(want);
+    }
+}
+
 static void under_each_list(int32_t joined, int32_t kept)
 {
-    for (size_t i = 0; i < sizeof joining / sizeof joining[0]; i++) {
-        alike(joining[i]);
-        answered(joined);
-    }
-    for (size_t i = 0; i < sizeof keeping / sizeof keeping[0]; i++) {
-        alike(keeping[i]);
-        answered(kept);
-    }
+    under_lists(joining, sizeof joining / sizeof joining[0], joined);
+    under_lists(keeping, sizeof keeping / sizeof keeping[0], kept);
 }
 
 static void choices_made_by_lists(void)
@@ -332,14 +334,8 @@ static void three_moves_under_lists(void)
         for (int i = 0; i < 3; i++)
             rule1(&t, 5, 'A' + orders[order][i], orders[order][i] / 2);
         use(&t);
-        for (size_t i = 0; i < sizeof choice / sizeof choice[0]; i++) {
-            alike(choice[i]);
-            answered(0);
-        }
-        for (size_t i = 0; i < sizeof none / sizeof none[0]; i++) {
-            alike(none[i]);
-            answered(1);
-        }
+        under_lists(choice, sizeof choice / sizeof choice[0], 0);
+        under_lists(none, sizeof none / sizeof none[0], 1);
     }
 }
 

@@ -12,11 +12,12 @@ use Rattle.moves.specs.Shown.{equal-plans}
 use Rattle.moves.proofs.ShownMoves.{plans-equal}
 use Rattle.first_run.proofs.RunParts.{first-move}
 use Rattle.replay.proofs.RunSplits.{no-move}
+use Rattle.replay.proofs.EndsLaws.{no-run}
 use Rattle.deterministic.specs.CompleteRuns.{SameRuns, by-each, runs-within, each-rest, ends-within, equal-lists, same-runs-within}
 
 -- each move of a list with each run that is told of what it leaves
-abbrev by-move : Move → (run : List ℕ) → List ℕ
-by-move m run = m .move ∷ run
+abbrev with-first : Move → (run : List ℕ) → List ℕ
+with-first m run = m .move ∷ run
 
 module _ (f : List ℕ → List (List ℕ)) where
   into-each : (ms : List Move) (m : Move) (run : List ℕ) → List·Memᴰ m ms → List·Memᴰ run (f (m .rest)) → List·Memᴰ (m .move ∷ run) (by-each f ms)
@@ -27,8 +28,8 @@ module _ (f : List ℕ → List (List ℕ)) where
       (λ (e : m ≡ x).
       Memᴰ·append-left (by-each f ms)
       (Memᴰ·cast (ap (λ (y : Move). y .move ∷ run) e)
-      (Memᴰ·map (by-move x) (subst (λ (y : Move). List·Memᴰ run (f (y .rest))) e h))))
-      (λ (i : List·Memᴰ m ms). Memᴰ·append-right (map (by-move x) (f (x .rest))) (into-each ms m run i h)) (List·Memᴰ·cases-cons k)
+      (Memᴰ·map (with-first x) (subst (λ (y : Move). List·Memᴰ run (f (y .rest))) e h))))
+      (λ (i : List·Memᴰ m ms). Memᴰ·append-right (map (with-first x) (f (x .rest))) (into-each ms m run i h)) (List·Memᴰ·cases-cons k)
 
   from-each : (ms : List Move) (run : List ℕ) → List·Memᴰ run (by-each f ms) →
       (m : Move) × (more : List ℕ) × List·Memᴰ m ms × List·Memᴰ more (f (m .rest)) × (m .move ∷ more ≡ run)
@@ -36,10 +37,10 @@ module _ (f : List ℕ → List (List ℕ)) where
   from-each [] run k = absurd (List·Memᴰ·not-nil k)
   from-each (x ∷ ms) run k =
       ⊎-elim
-      (λ (i : List·Memᴰ run (map (by-move x) (f (x .rest)))).
-      let (more, h, e) = Memᴰ·of-map (by-move x) (f (x .rest)) i in (x, more, List·Memᴰ·head refl, h, e))
+      (λ (i : List·Memᴰ run (map (with-first x) (f (x .rest)))).
+      let (more, h, e) = Memᴰ·of-map (with-first x) (f (x .rest)) i in (x, more, List·Memᴰ·head refl, h, e))
       (λ (i : List·Memᴰ run (by-each f ms)). let (m, more, j, h, e) = from-each ms run i in (m, more, List·Memᴰ·tail j, h, e))
-      (List·Memᴰ·append-cases (map (by-move x) (f (x .rest))) k)
+      (List·Memᴰ·append-cases (map (with-first x) (f (x .rest))) k)
 
 rest-of-each : (f : List ℕ → Bool) (ms : List Move) (m : Move) → each-rest f ms ≡ true → List·Memᴰ m ms → f (m .rest) ≡ true
 unfolding each-rest
@@ -68,17 +69,12 @@ module _ (t : Table) where
       subst (λ (l : List ℕ). Runs t (j ∷ js) l []) e
       (longer-run (j ∷ js) (m .rest) (m .move) more [] (moves-are-steps t (j ∷ js) (m .move) (m .rest) i) (listed-runs n (m .rest) more h))
 
-  -- the empty plan has no run but the empty one
-  none-of-nothing : (run : List ℕ) → Runs t [] run [] → run ≡ []
-  none-of-nothing [] r = refl
-  none-of-nothing (a ∷ run) r = absurd (first-move t r .1)
-
   -- and each is listed
   runs-listed : (n : ℕ) (p run : List ℕ) → ends-within t n p ≡ true → Runs t p run [] → List·Memᴰ run (runs-within t n p)
   unfolding runs-within ends-within
-  runs-listed zero [] run e r = List·Memᴰ·head (none-of-nothing run r)
+  runs-listed zero [] run e r = List·Memᴰ·head (no-run t run [] r)
   runs-listed zero (j ∷ js) run e r = absurd (false≢true e)
-  runs-listed (suc n) [] run e r = List·Memᴰ·head (none-of-nothing run r)
+  runs-listed (suc n) [] run e r = List·Memᴰ·head (no-run t run [] r)
   runs-listed (suc n) (j ∷ js) [] e r = absurd (cons≢nil (no-move t r))
   runs-listed (suc n) (j ∷ js) (a ∷ run) e r =
       let (q, s, k) = first-move t r in

@@ -5,8 +5,6 @@ use mathlib.Core.Bool.{true, false}
 use mathlib.Core.List.{List, [], _∷_, List·Memᴰ, List·Memᴰ·head, List·Memᴰ·tail, List·Memᴰ·not-nil, List·Memᴰ·cases-cons}
 use mathlib.Core.Logic.{_↔_, _⊎_, inl, inr, ⊎-elim}
 use Prim.Native.Nat.{ℕ, zero, suc}
-use lib.Dec.{eqb}
-use borrow.Author.Tests.{eqb-true, eqb-false}
 use Rattle.bpa.specs.Plans.{Table, Move, over, Step, Runs, longer-run, moves}
 use Rattle.bpa.specs.Norms.{norms, Good}
 use Rattle.bpa.specs.Bisimilar.{Simulates, Approx}
@@ -17,6 +15,8 @@ use Rattle.bpa.proofs.Basics.Plans.{step-over}
 use Rattle.bpa.proofs.Norm.NormFewest.{norm-fewest}
 use Rattle.bpa.proofs.Answers.{same-exact, apart-told, enough-rounds}
 use Rattle.first_run.proofs.RunParts.{first-move}
+use Rattle.replay.specs.Replay.{by-move, none-left}
+use Rattle.replay.proofs.ReplayExact.{is-move, of-move, none-in, one-in}
 use Rattle.deterministic.specs.Deterministic.{Deterministic}
 use Rattle.deterministic.specs.CompleteRuns.{SameRuns, OnlyLeft, TellingRun}
 use Rattle.deterministic.proofs.SingleSteps.{single-step}
@@ -26,24 +26,12 @@ use Rattle.deterministic.proofs.BisimilarRuns.{bisimilar-runs}
 abbrev StepBy : Table → (plan : List ℕ) → (move : ℕ) → Type 0
 StepBy t q a = (q′ : List ℕ) × Step t q a q′
 
-find-move : (a : ℕ) (ms : List Move) → ((q : List ℕ) × List·Memᴰ {A = Move} (record { move = a; rest = q }) ms)
-    ⊎ ((q : List ℕ) → List·Memᴰ {A = Move} (record { move = a; rest = q }) ms → ⊥)
-find-move a [] = inr (λ q m. List·Memᴰ·not-nil m)
-find-move a (x ∷ ms) =
-    by-test (eqb a (x .move))
-    (λ e. inl (x .rest, List·Memᴰ·head (λ i. record { move = eqb-true a (x .move) e i; rest = x .rest })))
-    (λ e.
-    ⊎-elim (λ (h : (q : List ℕ) × List·Memᴰ {A = Move} (record { move = a; rest = q }) ms). let (q, m) = h in inl (q, List·Memᴰ·tail m))
-    (λ (h : (q : List ℕ) → List·Memᴰ {A = Move} (record { move = a; rest = q }) ms → ⊥).
-    inr (λ q m.
-    ⊎-elim (λ (k : _≡_ {A = Move} (record { move = a; rest = q }) x). eqb-false a (x .move) e (λ i. k i .move)) (h q) (List·Memᴰ·cases-cons m)))
-    (find-move a ms))
-
 step-or-none : (t : Table) (q : List ℕ) (a : ℕ) → StepBy t q a ⊎ (StepBy t q a → ⊥)
 step-or-none t q a =
-    ⊎-elim (λ (h : (r : List ℕ) × List·Memᴰ {A = Move} (record { move = a; rest = r }) (moves t q)). let (r, m) = h in inl (r, moves-are-steps t q a r m))
-    (λ (h : (r : List ℕ) → List·Memᴰ {A = Move} (record { move = a; rest = r }) (moves t q) → ⊥).
-    inr (λ s. let (r, k) = s in h r (steps-are-moves t q a r k))) (find-move a (moves t q))
+    let ms = moves t q in
+    by-test (none-left (by-move a ms))
+    (λ e. inr (λ s. let (r, k) = s in none-in (by-move a ms) r e (of-move a r ms (steps-are-moves t q a r k))))
+    (λ e. let (r, m) = one-in (by-move a ms) e in inl (r, moves-are-steps t q a r (is-move a r ms m)))
 
 module _ (t : Table) (g : Good t (norms t)) (d : Deterministic t) where
   -- a complete run of a plan over the table

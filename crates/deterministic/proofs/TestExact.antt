@@ -13,10 +13,10 @@ use Rattle.moves.proofs.ShownMoves.{plans-equal, equal-self}
 use Rattle.deterministic.specs.Deterministic.{Deterministic, is-choice, choice-with, choice-among, no-choice}
 
 -- TWO RULES that are a choice, and two that are none
-pub record Choice (r s : Rule) : Type 0 where
-  pub job : r .job ≡ s .job
-  pub move : r .move ≡ s .move
-  pub other : r .after ≡ s .after → ⊥
+record Choice (r s : Rule) : Type 0 where
+  job : r .job ≡ s .job
+  move : r .move ≡ s .move
+  other : r .after ≡ s .after → ⊥
 
 module _ (r s : Rule) where
   abbrev heads : Bool

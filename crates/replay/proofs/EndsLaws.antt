@@ -51,7 +51,7 @@ module _ (t : Table) where
   gets-few p l e (run, rest, f, k, end, r) = omega (arith, ap length f, length-append run rest, k)
 
   -- THE EMPTY PLAN is through at once, and gets no further
-  no-run : (run end : List ℕ) → Runs t [] run end → run ≡ []
+  pub no-run : (run end : List ℕ) → Runs t [] run end → run ≡ []
   no-run [] end r = refl
   no-run (a ∷ run) end r = let (q, s, k) = first-move t r in absurd s
 

@@ -17,10 +17,10 @@ use Rattle.replay.proofs.RunSplits.{no-move}
 
 -- WHAT PLANS BECOME by a move
 module _ (a : ℕ) (q : List ℕ) where
-  abbrev this : Move
+  abbrev pub this : Move
   this = record { move = a; rest = q }
 
-  is-move : (ms : List Move) → List·Memᴰ q (by-move a ms) → List·Memᴰ this ms
+  pub is-move : (ms : List Move) → List·Memᴰ q (by-move a ms) → List·Memᴰ this ms
   unfolding by-move
   is-move [] m = absurd (List·Memᴰ·not-nil m)
   is-move (x ∷ ms) m =
@@ -33,7 +33,7 @@ module _ (a : ℕ) (q : List ℕ) where
       (List·Memᴰ·cases-cons k))
       (λ e. let k : List·Memᴰ q (by-move a ms) = rw e at m in List·Memᴰ·tail (is-move ms k))
 
-  of-move : (ms : List Move) → List·Memᴰ this ms → List·Memᴰ q (by-move a ms)
+  pub of-move : (ms : List Move) → List·Memᴰ this ms → List·Memᴰ q (by-move a ms)
   unfolding by-move
   of-move [] m = absurd (List·Memᴰ·not-nil m)
   of-move (x ∷ ms) m =
@@ -78,12 +78,12 @@ module _ (t : Table) where
   runs-back a log end ps (q, m, r) = let (p, k, s) = some-step a q ps m in (p, k, longer-run p q a log end s r)
 
 -- NONE LEFT, and one that is empty
-none-in : (ps : List (List ℕ)) (q : List ℕ) → none-left ps ≡ true → List·Memᴰ q ps → ⊥
+pub none-in : (ps : List (List ℕ)) (q : List ℕ) → none-left ps ≡ true → List·Memᴰ q ps → ⊥
 unfolding none-left
 none-in [] q e m = List·Memᴰ·not-nil m
 none-in (p ∷ ps) q e m = true≢false (sym e)
 
-one-in : (ps : List (List ℕ)) → none-left ps ≡ false → (q : List ℕ) × List·Memᴰ q ps
+pub one-in : (ps : List (List ℕ)) → none-left ps ≡ false → (q : List ℕ) × List·Memᴰ q ps
 unfolding none-left
 one-in [] e = absurd (true≢false e)
 one-in (p ∷ ps) e = (p, List·Memᴰ·head refl)
