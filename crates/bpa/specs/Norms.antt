@@ -47,8 +47,8 @@ Fewest t p n =
     ((run : List ℕ) × Runs t p run [] × (length run ≡ n)) × ((run : List ℕ) → Runs t p run [] → n ≤ length run)
 
 -- no run leads from the plan to the empty plan
-abbrev pub Endless : Table → (plan : List ℕ) → Type 0
-Endless t p = (run : List ℕ) → Runs t p run [] → ⊥
+abbrev pub NeverEnds : Table → (plan : List ℕ) → Type 0
+NeverEnds t p = (run : List ℕ) → Runs t p run [] → ⊥
 
 -- CAPPED NORMS: a norm above the bound counts as the bound, so that numbers stay small.
 unfoldable pub capped-round : (bound : ℕ) → Table → (norms : List ℕ) → List ℕ

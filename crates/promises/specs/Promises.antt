@@ -8,7 +8,7 @@ use mathlib.Core.Logic.{_↔_, _⊎_}
 use Prim.Native.Nat.{ℕ, _≤_, _<_}
 use lib.ListN.{length, drop}
 use Rattle.bpa.specs.Plans.{Rule, Table, Move, all-below, over, HasRule, Step, moves}
-use Rattle.bpa.specs.Norms.{norm, Fewest, Endless}
+use Rattle.bpa.specs.Norms.{norm, Fewest, NeverEnds}
 use Rattle.bpa.specs.Bisimilar.{Approx, Any-bisimulation, Bisimilar, Lowest, Form}
 use Rattle.bpa.specs.Method.{same, prime-form}
 use Rattle.area.specs.Numbers.{low-first}
@@ -68,8 +68,8 @@ List-table =
 
 -- REFUSALS 6 TO 9 are given for their conditions only
 -- some job has no run to its end
-abbrev pub Some-endless : Table → Type 0
-Some-endless t = (j : ℕ) × (j < t .jobs) × Endless t (j ∷ [])
+abbrev pub Some-never-ends : Table → Type 0
+Some-never-ends t = (j : ℕ) × (j < t .jobs) × NeverEnds t (j ∷ [])
 
 -- each job has one, and the shortest of some job is longer than 512
 abbrev pub Some-above-512 : Table → Type 0
@@ -79,13 +79,13 @@ Some-above-512 t =
 
 -- of a closed table, of an image, and of what the writer is given
 unfoldable pub Six-exactly : Type 0
-Six-exactly = (t : Table) → Closed t → (table-refusal t ≡ 6) ↔ Some-endless t
+Six-exactly = (t : Table) → Closed t → (table-refusal t ≡ 6) ↔ Some-never-ends t
 
 unfoldable pub Image-six : Type 0
-Image-six = (bs : List ℕ) → (image-refusal bs ≡ 6) ↔ ((layout-refusal bs ≡ 0) × Some-endless (table-in bs))
+Image-six = (bs : List ℕ) → (image-refusal bs ≡ 6) ↔ ((layout-refusal bs ≡ 0) × Some-never-ends (table-in bs))
 
 unfoldable pub Writer-six : Type 0
-Writer-six = (n : ℕ) (rs : List ℕ) → (write-refusal n rs ≡ 6) ↔ ((list-refusal n rs ≡ 0) × Some-endless (table-of n rs))
+Writer-six = (n : ℕ) (rs : List ℕ) → (write-refusal n rs ≡ 6) ↔ ((list-refusal n rs ≡ 0) × Some-never-ends (table-of n rs))
 
 unfoldable pub Seven-exactly : Type 0
 Seven-exactly = (t : Table) → Closed t → (table-refusal t ≡ 7) ↔ Some-above-512 t

@@ -11,7 +11,7 @@ use lib.Dec.{eqb}
 use lib.ListN.{getD}
 use Rattle.area.specs.Numbers.{all-low-first}
 use Rattle.bpa.specs.Plans.{Table}
-use Rattle.bpa.specs.Norms.{norms, Fewest, Endless}
+use Rattle.bpa.specs.Norms.{norms, Fewest, NeverEnds}
 use Rattle.bpa.specs.Bisimilar.{Bisimilar, Prime, Form}
 use Rattle.bpa.specs.Method.{same, prime-form}
 use Rattle.rules.specs.Places.{table-of}
@@ -78,7 +78,7 @@ pub data Case : Type 0 where
 -- a job of norm 0 has no run to its end
 abbrev pub HasNorms : Table → (jobs : ℕ) → (by-job : List ℕ) → Type 0
 HasNorms t n ns =
-    (j : ℕ) → j < n → (getD ns j 0 ≡ 0 → Endless t (j ∷ [])) × (0 < getD ns j 0 → Fewest t (j ∷ []) (getD ns j 0))
+    (j : ℕ) → j < n → (getD ns j 0 ≡ 0 → NeverEnds t (j ∷ [])) × (0 < getD ns j 0 → Fewest t (j ∷ []) (getD ns j 0))
 
 -- WHAT A CASE MEANS, of the written image and of the table that is read from it
 abbrev pub Means : Case → Type 0

@@ -9,7 +9,7 @@ use lib.Dec.{ltb, eqb}
 use lib.ListN.{length, getD}
 use borrow.Author.Tests.{eqb-true, eqb-false, ltb-true, ltb-false}
 use Rattle.bpa.specs.Plans.{Table, over, HasRule}
-use Rattle.bpa.specs.Norms.{norms, Fewest, Endless}
+use Rattle.bpa.specs.Norms.{norms, Fewest, NeverEnds}
 use Rattle.bpa.proofs.Basics.Cases.{by-test, or-none}
 use Rattle.bpa.proofs.Norm.NormStable.{norms-length}
 use Rattle.bpa.proofs.Norm.NormExact.{job-norm, job-without}
@@ -70,7 +70,7 @@ module _ (t : Table) where
     pub accepted-table : table-refusal t ≡ 0 → Accepted t
     accepted-table h = record { good = finite-good t closed (passed-finite h); small = passed-small h }
 
-    pub six-exact : (table-refusal t ≡ 6) ↔ ((j : ℕ) × (j < t .jobs) × Endless t (j ∷ []))
+    pub six-exact : (table-refusal t ≡ 6) ↔ ((j : ℕ) × (j < t .jobs) × NeverEnds t (j ∷ []))
     unfolding table-refusal norms-refusal
     six-exact = (
       λ h. let (j, l, z) = found-zero (norms t) (tests .0 h) in

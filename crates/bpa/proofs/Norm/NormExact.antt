@@ -8,7 +8,7 @@ use native.Mathlib.Decide.{decLt}
 use native.Mathlib.Omega.{arith}
 use lib.ListN.{length, getD}
 use Rattle.bpa.specs.Plans.{Table, over, HasRule, Step, Runs}
-use Rattle.bpa.specs.Norms.{sum-of, all-known, norms, norm, Fewest, Endless}
+use Rattle.bpa.specs.Norms.{sum-of, all-known, norms, norm, Fewest, NeverEnds}
 use Rattle.bpa.proofs.Basics.Plans.{over-head, over-one, sum-append, sum-one}
 use Rattle.bpa.proofs.Norm.NormRounds.{Found, By-rule, next-by-rule, next-least}
 use Rattle.bpa.proofs.Norm.KnownPlans.{known-parts, known-cons, known-append, known-split}
@@ -65,16 +65,16 @@ module _ (t : Table) (closed : (j a : ℕ) (w : List ℕ) → HasRule t j a w �
   job-norm j h k =
       subst (Fewest t (j ∷ [])) (sum-one (norms t) j) (plan-norm (j ∷ []) (over-one t j h) (known-cons (norms t) j [] k refl))
 
-  pub job-without : (j : ℕ) → j < t .jobs → (getD (norms t) j 0 ≡ 0) ↔ Endless t (j ∷ [])
+  pub job-without : (j : ℕ) → j < t .jobs → (getD (norms t) j 0 ≡ 0) ↔ NeverEnds t (j ∷ [])
   unfolding all-known
   job-without j h = (none, missing)
     where
-      none : getD (norms t) j 0 ≡ 0 → Endless t (j ∷ [])
+      none : getD (norms t) j 0 ≡ 0 → NeverEnds t (j ∷ [])
       none e run r = omega (arith, known-parts (norms t) j [] (run-plan r (over-one t j h) .0) .0)
 
-      decided : Endless t (j ∷ []) → Dec (0 < getD (norms t) j 0) → getD (norms t) j 0 ≡ 0
+      decided : NeverEnds t (j ∷ []) → Dec (0 < getD (norms t) j 0) → getD (norms t) j 0 ≡ 0
       decided n (yes k) = let ((run, r, e), l) = job-norm j h k in absurd (n run r)
       decided n (no k) = omega arith
 
-      missing : Endless t (j ∷ []) → getD (norms t) j 0 ≡ 0
+      missing : NeverEnds t (j ∷ []) → getD (norms t) j 0 ≡ 0
       missing n = decided n (decLt 0 (getD (norms t) j 0))
