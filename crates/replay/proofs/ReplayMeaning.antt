@@ -61,7 +61,7 @@ module _ (t : Table) (p log : List ℕ) where
 
 -- WHERE EVERY PLAN CAN FINISH, what some run begins with, some complete run begins with
 module _ (t : Table) (ns : List ℕ) (g : Good t ns) where
-  run-over : {p run end : List ℕ} → Runs t p run end → over t p ≡ true → over t end ≡ true
+  pub run-over : {p run end : List ℕ} → Runs t p run end → over t p ≡ true → over t end ≡ true
   run-over (empty-run p) o = o
   run-over (longer-run p q a run end s r) o = run-over r (closed-step t (g .closed) p q a o s)
 

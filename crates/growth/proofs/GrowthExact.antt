@@ -1,0 +1,96 @@
+-- The test decides whether a plan is endless or finite, a job that comes round with others behind it makes it endless and nothing else does, and the
+-- jobs found are counted. Assumes a good table.
+use mathlib.Core.Path.{_≡_, refl, sym, ap, _∙_}
+use mathlib.Core.Bool.{true, false}
+use mathlib.Core.List.{List, [], _∷_, List·Memᴰ, List·Memᴰ·not-nil, List·Memᴰ·cases-cons}
+use mathlib.Core.Logic.{_↔_, _⊎_, inl, inr, ⊎-elim}
+use Prim.Native.Nat.{ℕ, suc, _+_, _*_, _≤_}
+use native.Mathlib.Omega.{arith}
+use lib.ListN.{length}
+use Rattle.bpa.specs.Plans.{Rule, Table, over, HasRule}
+use Rattle.bpa.specs.Norms.{Good}
+use Rattle.bpa.specs.Bisimilar.{Bisimilar}
+use Rattle.bpa.proofs.Basics.Cases.{by-test}
+use Rattle.bpa.proofs.Base.MethodDecides.{equivalent-bisimilar}
+use Rattle.bpa.proofs.Rounds.Approximants.{approx-refl}
+use Rattle.replay.proofs.ReplayMeaning.{run-over}
+use Rattle.growth.specs.Growth.{Becomes, Finite, Endless, ReachesJob, SomeComesRound, Bounded, Unbounded, JobCount}
+use Rattle.growth.specs.Reached.{members, reached, grows}
+use Rattle.growth.proofs.JobSets.{member-exactly, members-rise}
+use Rattle.growth.proofs.JobsReached.{reached-meaning}
+use Rattle.growth.proofs.LongPlans.{grows-round, round-unbounded, unbounded-endless}
+use Rattle.growth.proofs.BoundedPlans.{bounded}
+use Rattle.growth.proofs.PlansListed.{plans-within, all-within}
+
+-- no plan is both
+pub not-both : (t : Table) (p : List ℕ) → Finite t p → Endless t p → ⊥
+not-both t p (plans, listed) endless =
+    let (q, b, none) = endless plans in
+    let (r, m, s) = listed q b in
+    none r m s
+
+-- the jobs of all rows together are a bound for those of each
+total : List Rule → ℕ
+total [] = 0
+total (r ∷ rs) = length (r .after) + total rs
+
+row-within : (r : Rule) (rs : List Rule) → List·Memᴰ r rs → length (r .after) ≤ total rs
+unfolding total
+row-within r [] m = absurd (List·Memᴰ·not-nil m)
+row-within r (s ∷ rs) m =
+    ⊎-elim (λ (e : r ≡ s). omega (arith, ap (λ (x : Rule). length (x .after)) e)) (λ n. omega (arith, row-within r rs n))
+    (List·Memᴰ·cases-cons m)
+
+module _ (t : Table) (ns : List ℕ) (g : Good t ns) (p : List ℕ) (o : over t p ≡ true) where
+  -- bounded length makes finitely many plans
+  pub bounded-finite : (n : ℕ) → Bounded t p n → Finite t p
+  bounded-finite n f = (plans-within t n, λ q b.
+    let k = run-over t ns g (b .1) o in
+    (q, all-within t n q k (f q b), equivalent-bisimilar t ns g q q k k (λ i. approx-refl t i q)))
+
+  grows-endless : grows t p ≡ true → Endless t p
+  grows-endless h = unbounded-endless t ns g p o (round-unbounded t ns g p o (grows-round t ns g p o h))
+
+  steady-finite : grows t p ≡ false → Finite t p
+  steady-finite h =
+      bounded-finite (total (t .rules) * length (members (reached t p)) + length p)
+      (bounded t ns g (total (t .rules)) (λ j a w m. omega (arith, row-within (record { job = j; move = a; after = w }) (t .rules) m)) p o h)
+
+  -- THE TEST DECIDES
+  pub endless-exactly : (grows t p ≡ true) ↔ Endless t p
+  endless-exactly = (
+    grows-endless,
+    (λ e. by-test (grows t p) (λ h. h) (λ h. absurd (not-both t p (steady-finite h) e))),
+  )
+
+  pub finite-exactly : (grows t p ≡ false) ↔ Finite t p
+  finite-exactly = (
+    steady-finite,
+    (λ f. by-test (grows t p) (λ h. absurd (not-both t p f (grows-endless h))) (λ h. h)),
+  )
+
+  -- THE CUSTOMER'S TEST
+  pub round-exactly : SomeComesRound t p ↔ Endless t p
+  round-exactly = (
+    (λ c. unbounded-endless t ns g p o (round-unbounded t ns g p o c)),
+    (λ e. grows-round t ns g p o (endless-exactly .1 e)),
+  )
+
+  -- and as plans are written
+  pub unbounded-exactly : Unbounded t p ↔ Endless t p
+  unbounded-exactly = (
+    unbounded-endless t ns g p o,
+    (λ e. round-unbounded t ns g p o (round-exactly .1 e)),
+  )
+
+  -- THE JOBS are counted
+  pub jobs-counted : JobCount t p (length (members (reached t p)))
+  jobs-counted = record {
+    jobs = members (reached t p);
+    once = members-rise 0 (reached t p);
+    exactly = λ j. (
+      (λ m. reached-meaning t ns g p o j .0 (member-exactly j (reached t p) .0 m)),
+      (λ r. member-exactly j (reached t p) .1 (reached-meaning t ns g p o j .1 r)),
+    );
+    counted = refl;
+  }

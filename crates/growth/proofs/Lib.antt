@@ -1,0 +1,9 @@
+-- Laws of what a plan can become.
+pub mod JobSets
+pub mod RuleRows
+pub mod ReachedExact
+pub mod JobsReached
+pub mod LongPlans
+pub mod BoundedPlans
+pub mod PlansListed
+pub mod GrowthExact
