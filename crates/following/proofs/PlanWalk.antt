@@ -17,7 +17,8 @@ use Rattle.bpa.proofs.Basics.JobsBelow.{below-at}
 use Rattle.replay.specs.Ends.{last, Ends}
 use Rattle.replay.proofs.EndsLaws.{ends-split, gets-split, gets-front, length-last, none-ends, none-gets, ends-gets}
 use Rattle.reach.specs.Cells.{InCell}
-use Rattle.reach.specs.Reaches.{bit, Reaches, Alone}
+use Rattle.bits.specs.Bits.{bit}
+use Rattle.reach.specs.Reaches.{Reaches, Alone}
 use Rattle.reach.proofs.WordBits.{holds-none, holds-either}
 use Rattle.reach.proofs.ReachLaws.{reaches-as}
 use Rattle.following.specs.Followed.{cell-of, KnownCells, PlanReaches, JobMore, Follows}

@@ -16,11 +16,12 @@ use Rattle.bpa.proofs.Basics.Cases.{by-test}
 use Rattle.replay.specs.Ends.{last, Ends, Gets}
 use Rattle.replay.proofs.EndsLaws.{length-last, ends-fewer}
 use Rattle.reach.specs.Cells.{low-at, high-at, least-at, InCell}
-use Rattle.reach.specs.Reaches.{bit, HoldsWord, CellReaches, Joins}
-use Rattle.reach.proofs.WordBits.{zero-bit}
+use Rattle.bits.specs.Bits.{bit}
+use Rattle.bits.proofs.PlaceBits.{zero-bit}
+use Rattle.bits.proofs.TrailingBits.{bit-shifted, clear-below, set-above, set-within}
+use Rattle.reach.specs.Reaches.{HoldsWord, CellReaches, Joins}
 use Rattle.reach.proofs.ReachLaws.{reaches-as, reaches-joined}
 use Rattle.following.specs.Followed.{cell-of, KnownCells, OneMore, WordMore}
-use Rattle.following.proofs.TrailingBits.{bit-shifted, clear-below, set-above, set-within}
 
 -- a number below the next one is below it, or is it
 pub last-or : {A : Type 0} (s m : ℕ) → s < suc m → (s < m → A) → (s ≡ m → A) → A

@@ -127,8 +127,12 @@ module _ (t : Table) (ns : List ℕ) (g : Good t ns) (k : ℕ) (short : (j a : �
     unfolding weight size
     own-weight x m =
         let less : size x ≤ number =
-        omega (arith, all-sizes, count-mono (has (reached t (x ∷ []))) (has (reached t p)) (t .jobs)
-        (λ z i e. reached-exactly t (g .closed) p o z .1 (x, m, of-one x z (each-over t p o x m) e))) in
+        omega (
+          arith,
+          all-sizes,
+          count-mono (has (reached t (x ∷ []))) (has (reached t p)) (t .jobs)
+              (λ z i e. reached-exactly t (g .closed) p o z .1 (x, m, of-one x z (each-over t p o x m) e)),
+        ) in
         mul-le-mul-left k less
 
     pub bounded : Bounded t p (k * number + length p)

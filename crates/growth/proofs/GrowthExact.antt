@@ -44,9 +44,12 @@ row-within r (s ∷ rs) m =
 module _ (t : Table) (ns : List ℕ) (g : Good t ns) (p : List ℕ) (o : over t p ≡ true) where
   -- bounded length makes finitely many plans
   pub bounded-finite : (n : ℕ) → Bounded t p n → Finite t p
-  bounded-finite n f = (plans-within t n, λ q b.
-    let k = run-over t ns g (b .1) o in
-    (q, all-within t n q k (f q b), equivalent-bisimilar t ns g q q k k (λ i. approx-refl t i q)))
+  bounded-finite n f = (
+    plans-within t n,
+    λ q b.
+        let k = run-over t ns g (b .1) o in
+        (q, all-within t n q k (f q b), equivalent-bisimilar t ns g q q k k (λ i. approx-refl t i q)),
+  )
 
   grows-endless : grows t p ≡ true → Endless t p
   grows-endless h = unbounded-endless t ns g p o (round-unbounded t ns g p o (grows-round t ns g p o h))

@@ -76,7 +76,15 @@ module _ (t : Table) (ns : List ℕ) (g : Good t ns) where
 
     pub unbounded-endless : Unbounded t p → Endless t p
     unbounded-endless long plans =
-        let (q, b, h) = long (suc (total plans)) in
-        (q, b, λ r m s.
-            omega (arith, h, within-total r plans m, length-norm t ns g q (run-over t ns g (b .1) o),
-              equivalent-norm t ns g q r (s .over-left) (s .over-right) (bisimilar-equivalent t ns g q r s)))
+        let (q, b, h) = long (suc (total plans)) in (
+          q,
+          b,
+          λ r m s.
+              omega (
+                arith,
+                h,
+                within-total r plans m,
+                length-norm t ns g q (run-over t ns g (b .1) o),
+                equivalent-norm t ns g q r (s .over-left) (s .over-right) (bisimilar-equivalent t ns g q r s),
+              ),
+        )

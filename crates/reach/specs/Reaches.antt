@@ -2,13 +2,10 @@
 use mathlib.Core.Path.{_≡_}
 use mathlib.Core.List.{List}
 use mathlib.Core.Logic.{_↔_}
-use Prim.Native.Nat.{ℕ, _+_, _-_, _/_, _%_, _^_, _≤_, _<_, min}
+use Prim.Native.Nat.{ℕ, _+_, _≤_, _<_, min}
 use lib.Bits.{bitOr}
+use Rattle.bits.specs.Bits.{bit}
 use Rattle.reach.specs.Cells.{low-at, high-at, least-at}
-
--- the bit of a word at a place
-unfoldable pub bit : (word place : ℕ) → ℕ
-bit w k = w / 2 ^ k % 2
 
 -- a word whose bits are the numbers with a property
 abbrev pub HoldsWord : (word : ℕ) → (ℕ → Type 0) → Type 0

@@ -15,7 +15,7 @@ use Rattle.replay.proofs.EndsSay.{whole-said, part-said, place-said}
 use Rattle.replay.proofs.ReplayMeaning.{said}
 use Rattle.reach.specs.Reaches.{Reaches}
 use Rattle.following.specs.Followed.{PlanReaches}
-use Rattle.following.proofs.TrailingBits.{bit-first}
+use Rattle.bits.proofs.TrailingBits.{bit-first}
 use Rattle.replaying.specs.Outcomes.{IsOutcome, IsReplay}
 
 module _ (t : Table) (p log : List ℕ) where

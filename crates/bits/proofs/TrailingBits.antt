@@ -8,13 +8,13 @@ use lib.Dec.{ltb}
 use lib.Pow.{pow-mono, shr-shr}
 use borrow.Author.Tests.{ltb-true, ltb-false}
 use Rattle.bpa.proofs.Basics.Cases.{by-test}
-use Rattle.reach.specs.Reaches.{bit}
+use Rattle.bits.specs.Bits.{bit}
 
 pub bit-first : (n : ℕ) → bit n 0 ≡ n % 2
 unfolding bit
 bit-first n = ap (λ (m : ℕ). m % 2) (div-one n)
 
-bit-next : (n k : ℕ) → bit n (suc k) ≡ bit (n / 2) k
+pub bit-next : (n k : ℕ) → bit n (suc k) ≡ bit (n / 2) k
 unfolding bit
 bit-next n k = ap (λ (m : ℕ). m % 2) (ap (λ (m : ℕ). n / m) (pow-succ' 2 k) ∙ sym (div-div-eq-div-mul n 2 (2 ^ k)))
 
@@ -23,7 +23,7 @@ pub bit-shifted : (n j k : ℕ) → bit (n / 2 ^ j) k ≡ bit n (j + k)
 unfolding bit
 bit-shifted n j k = ap (λ (m : ℕ). m % 2) (shr-shr n j k)
 
-bit-beyond : (n k : ℕ) → n < 2 ^ k → bit n k ≡ 0
+pub bit-beyond : (n k : ℕ) → n < 2 ^ k → bit n k ≡ 0
 unfolding bit
 bit-beyond n k h = ap (λ (m : ℕ). m % 2) (div-eq-of-lt h)
 

@@ -1,0 +1,4 @@
+-- Laws of the bits of numbers.
+pub mod PlaceBits
+pub mod TrailingBits
+pub mod BitSums

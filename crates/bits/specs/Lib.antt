@@ -1,0 +1,2 @@
+-- Numbers as sets of places.
+pub mod Bits

@@ -1,0 +1,1 @@
+// Numbers as sets of places: the bits that are set. No code.
