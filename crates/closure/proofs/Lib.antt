@@ -1,0 +1,2 @@
+-- Laws of places that rows of bits lead to.
+pub mod PendingJobs

@@ -1,0 +1,2 @@
+-- Places that rows of bits lead to.
+pub mod Linked

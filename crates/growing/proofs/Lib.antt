@@ -1,0 +1,3 @@
+-- Growth by bits is growth.
+pub mod CountedBits
+pub mod ReachedBits

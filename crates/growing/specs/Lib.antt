@@ -1,0 +1,2 @@
+-- Growth told by bits.
+pub mod Growing

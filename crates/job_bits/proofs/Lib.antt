@@ -1,0 +1,2 @@
+-- Laws of jobs as bits.
+pub mod BitsOfJobs

@@ -1,0 +1,2 @@
+-- Jobs as bits.
+pub mod JobBits
