@@ -5,6 +5,7 @@ ghost use Rattle.plans.specs.PlanCalls.{Normed, Moved, RanFirst};
 ghost use Rattle.sameness.specs.SamenessCalls.{Compared, Formed, ComparedAlike, FormedAlike};
 ghost use Rattle.logs.specs.LogCalls.{Replayed};
 ghost use Rattle.outcomes.specs.OutcomeCalls.{Determined};
+ghost use Rattle.plan_growth.specs.GrowthCalls.{Grown};
 
 // The table of an image: the job count in one byte, then the rules, 8 bytes each.
 #[no_mangle]
@@ -120,4 +121,12 @@ pub extern "C" fn gindrazoma_deterministic(image: &[u8], alike: &[u8]) -> i32
     ensures { λ r. ⌜ Determined (now (image .entry)) (now (alike .entry)) r ⌝ }
 {
     outcomes::deterministic(image, alike)
+}
+
+// Whether a plan can become finitely many different plans, and how many jobs it can reach.
+#[no_mangle]
+pub extern "C" fn gindrazoma_plan_growth(image: &[u8], plan: &[u8]) -> i32
+    ensures { λ r. ⌜ Grown (now (image .entry)) (now (plan .entry)) r ⌝ }
+{
+    plan_growth::plan_growth(image, plan)
 }

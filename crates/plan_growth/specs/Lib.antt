@@ -1,0 +1,2 @@
+-- What the call about growth answers.
+pub mod GrowthCalls
