@@ -7,3 +7,6 @@ pub mod LongPlans
 pub mod BoundedPlans
 pub mod PlansListed
 pub mod GrowthExact
+pub mod JobCounts
+pub mod SameGrowth
+pub mod RulesReordered
