@@ -8,6 +8,7 @@ use Rattle.promises.proofs.FirstRuns as firstruns
 use Rattle.promises.proofs.AlikeLists as alikelists
 use Rattle.promises.proofs.LogReplays as logreplays
 use Rattle.promises.proofs.Outcomes as outcomes
+use Rattle.promises.proofs.PlanGrowth as plangrowth
 use Rattle.promises.proofs.WorkedCases as workedcases
 
 pub every-promise : EveryPromise
@@ -131,6 +132,20 @@ every-promise = record {
   compared-by-runs = outcomes.compared-by-runs;
   compared-runs-stay = outcomes.compared-runs-stay;
   no-list-determined = outcomes.no-list-determined;
+  finite-or-endless = plangrowth.finite-or-endless;
+  never-finite-endless = plangrowth.never-finite-endless;
+  round-decides = plangrowth.round-decides;
+  growth-decides = plangrowth.growth-decides;
+  endless-long = plangrowth.endless-long;
+  same-growth = plangrowth.same-growth;
+  reached-exactly = plangrowth.reached-exactly;
+  jobs-counted = plangrowth.jobs-counted;
+  count-single = plangrowth.count-single;
+  growth-reordered = plangrowth.growth-reordered;
+  growth-told = plangrowth.growth-told;
+  growth-bounded = plangrowth.growth-bounded;
+  growth-of-none = plangrowth.growth-of-none;
+  growth-small = plangrowth.growth-small;
   rows-normed = remainders.rows-normed;
   remainders-normed = remainders.remainders-normed;
   unequal-norms = remainders.unequal-norms;

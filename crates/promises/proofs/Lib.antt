@@ -10,6 +10,7 @@ pub mod Calls
 pub mod AlikeLists
 pub mod LogReplays
 pub mod Outcomes
+pub mod PlanGrowth
 pub mod BothAges
 pub mod Remainders
 pub mod FirstRuns

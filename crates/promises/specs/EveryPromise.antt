@@ -8,6 +8,7 @@ use Rattle.promises.specs.FirstRuns as firstruns
 use Rattle.promises.specs.AlikeLists as alikelists
 use Rattle.promises.specs.LogReplays as logreplays
 use Rattle.promises.specs.Outcomes as outcomes
+use Rattle.promises.specs.PlanGrowth as plangrowth
 use Rattle.promises.specs.WorkedCases as workedcases
 
 pub record EveryPromise : Type 1 where
@@ -143,6 +144,21 @@ pub record EveryPromise : Type 1 where
   pub compared-by-runs : outcomes.Compared-by-runs
   pub compared-runs-stay : outcomes.Compared-runs-stay
   pub no-list-determined : outcomes.No-list-determined
+  -- WHAT A PLAN CAN BECOME
+  pub finite-or-endless : plangrowth.Finite-or-endless
+  pub never-finite-endless : plangrowth.Never-finite-endless
+  pub round-decides : plangrowth.Round-decides
+  pub growth-decides : plangrowth.Growth-decides
+  pub endless-long : plangrowth.Endless-long
+  pub same-growth : plangrowth.Same-growth
+  pub reached-exactly : plangrowth.Reached-exactly
+  pub jobs-counted : plangrowth.Jobs-counted
+  pub count-single : plangrowth.Count-single
+  pub growth-reordered : plangrowth.Growth-reordered
+  pub growth-told : plangrowth.Growth-told
+  pub growth-bounded : plangrowth.Growth-bounded
+  pub growth-of-none : plangrowth.Growth-of-none
+  pub growth-small : plangrowth.Growth-small
   -- THE NORMS THAT THE ROUNDS LOOK UP
   pub rows-normed : remainders.Rows-normed
   pub remainders-normed : remainders.Remainders-normed
