@@ -1,21 +1,21 @@
 -- The test decides whether a plan is endless or finite, a job that comes round with others behind it makes it endless and nothing else does, and the
 -- jobs found are counted. Assumes a good table.
-use mathlib.Core.Path.{_≡_, refl, sym, ap, _∙_}
-use mathlib.Core.Bool.{true, false}
+use mathlib.Core.Path.{_≡_, refl, sym, ap, subst}
+use mathlib.Core.Bool.{Bool, true, false, cond}
 use mathlib.Core.List.{List, [], _∷_, List·Memᴰ, List·Memᴰ·not-nil, List·Memᴰ·cases-cons}
 use mathlib.Core.Logic.{_↔_, _⊎_, inl, inr, ⊎-elim}
-use Prim.Native.Nat.{ℕ, suc, _+_, _*_, _≤_}
+use Prim.Native.Nat.{ℕ, _+_, _*_, _/_, _%_, _≤_}
 use native.Mathlib.Omega.{arith}
 use lib.ListN.{length}
 use Rattle.bpa.specs.Plans.{Rule, Table, over, HasRule}
 use Rattle.bpa.specs.Norms.{Good}
 use Rattle.bpa.specs.Bisimilar.{Bisimilar}
-use Rattle.bpa.proofs.Basics.Cases.{by-test}
+use Rattle.bpa.proofs.Basics.Cases.{by-test, never-both}
 use Rattle.bpa.proofs.Base.MethodDecides.{equivalent-bisimilar}
 use Rattle.bpa.proofs.Rounds.Approximants.{approx-refl}
 use Rattle.replay.proofs.ReplayMeaning.{run-over}
-use Rattle.growth.specs.Growth.{Becomes, Finite, Endless, ReachesJob, SomeComesRound, Bounded, Unbounded, JobCount}
-use Rattle.growth.specs.Reached.{members, reached, grows}
+use Rattle.growth.specs.Growth.{Becomes, Finite, Endless, ReachesJob, SomeComesRound, Bounded, Unbounded, JobCount, GrowthSays}
+use Rattle.growth.specs.Reached.{members, reached, grows, growth}
 use Rattle.growth.proofs.JobSets.{member-exactly, members-rise}
 use Rattle.growth.proofs.JobsReached.{reached-meaning}
 use Rattle.growth.proofs.LongPlans.{grows-round, round-unbounded, unbounded-endless}
@@ -40,6 +40,13 @@ row-within r [] m = absurd (List·Memᴰ·not-nil m)
 row-within r (s ∷ rs) m =
     ⊎-elim (λ (e : r ≡ s). omega (arith, ap (λ (x : Rule). length (x .after)) e)) (λ n. omega (arith, row-within r rs n))
     (List·Memᴰ·cases-cons m)
+
+-- a number by its half and its last binary digit
+pub by-digit : (b : Bool) (m n : ℕ) → n ≡ 2 * m + cond b 1 0 → ((n % 2 ≡ 1) ↔ (b ≡ true)) × ((n % 2 ≡ 0) ↔ (b ≡ false)) × (n / 2 ≡ m)
+by-digit true m n e =
+    (((λ x. refl), (λ x. omega (arith, e))), ((λ x. absurd (omega (arith, e, x))), (λ x. absurd (never-both true refl x))), omega (arith, e))
+by-digit false m n e =
+    (((λ x. absurd (omega (arith, e, x))), (λ x. absurd (never-both false x refl))), ((λ x. refl), (λ x. omega (arith, e))), omega (arith, e))
 
 module _ (t : Table) (ns : List ℕ) (g : Good t ns) (p : List ℕ) (o : over t p ≡ true) where
   -- bounded length makes finitely many plans
@@ -97,3 +104,13 @@ module _ (t : Table) (ns : List ℕ) (g : Good t ns) (p : List ℕ) (o : over t 
     );
     counted = refl;
   }
+
+  -- AS ONE NUMBER
+  pub growth-says : GrowthSays t p (growth t p)
+  unfolding growth
+  growth-says =
+      let (odd, even, half) = by-digit (grows t p) (length (members (reached t p))) (growth t p) refl in (
+        ((λ x. endless-exactly .0 (odd .0 x)), (λ e. odd .1 (endless-exactly .1 e))),
+        ((λ x. finite-exactly .0 (even .0 x)), (λ f. even .1 (finite-exactly .1 f))),
+        subst (JobCount t p) (sym half) jobs-counted,
+      )

@@ -11,7 +11,7 @@ use borrow.Author.Tests.{ltb-true, ltb-false, lt-ltb, eqb-true, eq-eqb}
 use Rattle.bpa.proofs.Basics.Cases.{by-test, or-cases, or-left, or-right, and-both, never-both}
 use Rattle.bpa.proofs.Basics.Counting.{count, count-le, count-more}
 use Rattle.growth.specs.Growth.{rises}
-use Rattle.growth.specs.Reached.{JobSet, has, members-from, members, set-from, set-of, stands-in, one-of}
+use Rattle.growth.specs.Reached.{JobSet, has, members-from, members, set-from, set-of, has-job, one-of}
 
 -- A SET MADE BY A TEST
 module _ (f : ℕ → Bool) where
@@ -129,16 +129,16 @@ all-pass f n h i l =
     (λ e. absurd (omega (arith, h, count-more f (λ j. true) n (λ j k g. refl) i l e refl, count-le (λ j. true) n)))
 
 -- TESTS OVER LISTS
-pub stands-exactly : (p : List ℕ) (j : ℕ) → (stands-in p j ≡ true) ↔ List·Memᴰ j p
-unfolding stands-in
-stands-exactly [] j = ((λ e. absurd (true≢false (sym e))), (λ m. absurd (List·Memᴰ·not-nil m)))
-stands-exactly (i ∷ is) j = (
+pub has-job-exactly : (p : List ℕ) (j : ℕ) → (has-job p j ≡ true) ↔ List·Memᴰ j p
+unfolding has-job
+has-job-exactly [] j = ((λ e. absurd (true≢false (sym e))), (λ m. absurd (List·Memᴰ·not-nil m)))
+has-job-exactly (i ∷ is) j = (
   (λ e.
-      ⊎-elim (λ h. List·Memᴰ·head (sym (eqb-true i j h))) (λ h. List·Memᴰ·tail (stands-exactly is j .0 h))
-      (or-cases (eqb i j) (stands-in is j) e)),
+      ⊎-elim (λ h. List·Memᴰ·head (sym (eqb-true i j h))) (λ h. List·Memᴰ·tail (has-job-exactly is j .0 h))
+      (or-cases (eqb i j) (has-job is j) e)),
   (λ m.
-      ⊎-elim (λ (e : j ≡ i). or-left (eqb i j) (stands-in is j) (eq-eqb i j (sym e)))
-      (λ n. or-right (eqb i j) (stands-in is j) (stands-exactly is j .1 n)) (List·Memᴰ·cases-cons m)),
+      ⊎-elim (λ (e : j ≡ i). or-left (eqb i j) (has-job is j) (eq-eqb i j (sym e)))
+      (λ n. or-right (eqb i j) (has-job is j) (has-job-exactly is j .1 n)) (List·Memᴰ·cases-cons m)),
 )
 
 pub one-exactly : (f : ℕ → Bool) (js : List ℕ) → (one-of f js ≡ true) ↔ ((j : ℕ) × List·Memᴰ j js × (f j ≡ true))

@@ -9,8 +9,8 @@ use lib.Dec.{eqb}
 use borrow.Author.Tests.{eqb-true, eq-eqb}
 use Rattle.bpa.specs.Plans.{Rule}
 use Rattle.bpa.proofs.Basics.Cases.{or-cases, or-left, or-right, and-left, and-right, and-both}
-use Rattle.growth.specs.Reached.{JobSet, has, stands-in, comes-in, all-but-last, fronts}
-use Rattle.growth.proofs.JobSets.{stands-exactly}
+use Rattle.growth.specs.Reached.{JobSet, has, has-job, comes-in, all-but-last, fronts}
+use Rattle.growth.proofs.JobSets.{has-job-exactly}
 
 -- a job in the row of a rule of a member
 abbrev pub ComesIn : JobSet → List Rule → (job : ℕ) → Type 0
@@ -22,7 +22,7 @@ comes-exactly s [] j = ((λ e. absurd (true≢false (sym e))), (λ w. absurd (Li
 comes-exactly s (r ∷ rs) j = (
   (λ e.
       ⊎-elim
-      (λ h. (r, List·Memᴰ·head refl, and-left a b h, stands-exactly (r .after) j .0 (and-right a b h)))
+      (λ h. (r, List·Memᴰ·head refl, and-left a b h, has-job-exactly (r .after) j .0 (and-right a b h)))
       (λ h. let (q, m, i, k) = comes-exactly s rs j .0 h in (q, List·Memᴰ·tail m, i, k))
       (or-cases (a && b) (comes-in s rs j) e)),
   (λ w.
@@ -31,7 +31,7 @@ comes-exactly s (r ∷ rs) j = (
       (λ (e : q ≡ r).
       or-left (a && b) (comes-in s rs j)
       (and-both a b (subst (λ (x : Rule). has s (x .job) ≡ true) e i)
-      (stands-exactly (r .after) j .1 (subst (λ (x : Rule). List·Memᴰ j (x .after)) e k))))
+      (has-job-exactly (r .after) j .1 (subst (λ (x : Rule). List·Memᴰ j (x .after)) e k))))
       (λ n. or-right (a && b) (comes-in s rs j) (comes-exactly s rs j .1 (q, n, i, k)))
       (List·Memᴰ·cases-cons m)),
 )
@@ -40,7 +40,7 @@ comes-exactly s (r ∷ rs) j = (
     a = has s (r .job)
 
     b : Bool
-    b = stands-in (r .after) j
+    b = has-job (r .after) j
 
 -- a job that others stand behind, in a row of a job
 abbrev pub InFront : List Rule → (job front : ℕ) → Type 0

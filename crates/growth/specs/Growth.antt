@@ -4,7 +4,7 @@ use mathlib.Core.Path.{_≡_}
 use mathlib.Core.Bool.{Bool, true, _&&_}
 use mathlib.Core.List.{List, [], _∷_, List·Memᴰ}
 use mathlib.Core.Logic.{_↔_}
-use Prim.Native.Nat.{ℕ, _≤_}
+use Prim.Native.Nat.{ℕ, _/_, _%_, _≤_}
 use lib.Dec.{ltb}
 use lib.ListN.{length}
 use Rattle.bpa.specs.Plans.{Table, Runs}
@@ -56,3 +56,8 @@ pub record JobCount (t : Table) (p : List ℕ) (count : ℕ) : Type 0 where
   pub once : rises jobs ≡ true
   pub exactly : (j : ℕ) → List·Memᴰ j jobs ↔ ReachesJob t p j
   pub counted : length jobs ≡ count
+
+-- THE ANSWER AS ONE NUMBER, by its meaning: odd exactly if the plan is endless, even exactly if it is finite, and half of it is the number of jobs that the
+-- plan can reach
+abbrev pub GrowthSays : Table → (plan : List ℕ) → ℕ → Type 0
+GrowthSays t p n = ((n % 2 ≡ 1) ↔ Endless t p) × ((n % 2 ≡ 0) ↔ Finite t p) × JobCount t p (n / 2)

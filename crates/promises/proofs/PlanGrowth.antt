@@ -21,7 +21,7 @@ use Rattle.image.specs.Image.{image-refusal, image-jobs, image-places, table-in
 use Rattle.image.proofs.ImageList.{image-good-list}
 use Rattle.table.specs.CallRefusals.{one-plan}
 use Rattle.table.proofs.ImageTables.{image-passes}
-use Rattle.growth.specs.Growth.{Bounded, JobCount}
+use Rattle.growth.specs.Growth.{Bounded, GrowthSays}
 use Rattle.growth.specs.Reached.{has, members, reached, grows-at, one-of, grows, growth}
 use Rattle.growth.proofs.JobSets.{member-exactly, members-counted}
 use Rattle.growth.proofs.ReachedExact.{reached-length, reached-led}
@@ -102,26 +102,18 @@ module _ (bs p : List ℕ) (n : ℕ) (w : Grown bs p (pos n)) where
   given : AcceptedBoth bs p
   given = accepted-both bs p passed
 
-  is : n ≡ 2 * number + cond (grows t p) 1 0
-  unfolding growth
+  is : n ≡ growth t p
   is = result-is (one-plan bs p) (growth t p) n w .1
 
-  digit : (b : Bool) → n ≡ 2 * number + cond b 1 0 → (n / 2 ≡ number) × ((n % 2 ≡ 1) ↔ (b ≡ true)) × ((n % 2 ≡ 0) ↔ (b ≡ false))
-  digit true e =
-      (omega (arith, e), ((λ x. refl), (λ x. omega (arith, e))), ((λ x. absurd (omega (arith, e, x))), (λ x. absurd (never-both true refl x))))
-  digit false e =
-      (omega (arith, e), ((λ x. absurd (omega (arith, e, x))), (λ x. absurd (never-both false x refl))), ((λ x. refl), (λ x. omega (arith, e))))
+  by-parts : n ≡ 2 * number + cond (grows t p) 1 0
+  unfolding growth
+  by-parts = is
 
 pub growth-told : promised.Growth-told
-unfolding promised.Growth-told promised.Growth-decides promised.Jobs-counted
+unfolding promised.Growth-told
 growth-told bs p n w =
-    let (half, odd, even) = digit bs p n w (grows (table-in bs) p) (is bs p n w) in
     let a = given bs p n w in
-    let (endless, finite) = growth-decides (table-in bs) p (a .table) (a .plan .over-table) in (
-      ((λ x. endless .0 (odd .0 x)), (λ x. odd .1 (endless .1 x))),
-      ((λ x. finite .0 (even .0 x)), (λ x. even .1 (finite .1 x))),
-      subst (JobCount (table-in bs) p) (sym half) (jobs-counted (table-in bs) p (a .table) (a .plan .over-table)),
-    )
+    subst (GrowthSays (table-in bs) p) (sym (is bs p n w)) (exact.growth-says (table-in bs) (norms (table-in bs)) (a .table .good) p (a .plan .over-table))
 
 -- an accepted image has rows of at most four jobs, and at most 24 jobs
 module _ (bs p : List ℕ) (passed : one-plan bs p ≡ 0) where
@@ -141,7 +133,7 @@ module _ (bs p : List ℕ) (passed : one-plan bs p ≡ 0) where
 pub growth-bounded : promised.Growth-bounded
 unfolding promised.Growth-bounded
 growth-bounded bs p n w even =
-    let (half, odd, none) = digit bs p n w (grows (table-in bs) p) (is bs p n w) in
+    let (odd, none, half) = exact.by-digit (grows (table-in bs) p) (number bs p n w) n (by-parts bs p n w) in
     let a = given bs p n w in
     subst (λ (m : ℕ). Bounded (table-in bs) p (3 * m + length p)) (sym half)
     (bounded (table-in bs) (norms (table-in bs)) (a .table .good) 3 (short-rows bs p (passed bs p n w)) p (a .plan .over-table) (none .0 even))
@@ -151,7 +143,7 @@ unfolding promised.Growth-of-none grows one-of
 growth-of-none bs n w =
     let t = table-in bs in
     subst (λ (l : List ℕ). n ≡ 2 * length l + cond (one-of (grows-at t) l) 1 0)
-    (no-members (members (reached t [])) (λ j m. List·Memᴰ·not-nil (reached-led t [] j (member-exactly j (reached t []) .0 m) .1))) (is bs [] n w)
+    (no-members (members (reached t [])) (λ j m. List·Memᴰ·not-nil (reached-led t [] j (member-exactly j (reached t []) .0 m) .1))) (by-parts bs [] n w)
   where
     no-members : (l : List ℕ) → ((j : ℕ) → List·Memᴰ j l → ⊥) → l ≡ []
     no-members [] f = refl
@@ -164,7 +156,7 @@ growth-small bs p n w =
     let s = reached t p in
     let few : length (members s) ≤ 24 =
     omega (arith, members-counted 0 s, count-le (has s) (length s), reached-length t p, few-jobs bs p (passed bs p n w)) in
-    at-most (grows t p) (length (members s)) few (is bs p n w)
+    at-most (grows t p) (length (members s)) few (by-parts bs p n w)
   where
     at-most : (b : Bool) (m : ℕ) → m ≤ 24 → n ≡ 2 * m + cond b 1 0 → n ≤ 49
     at-most true m h e = omega (arith, h, e)

@@ -4,7 +4,8 @@ use mathlib.Core.Path.{_≡_, refl, sym, ap, _∙_, subst}
 use mathlib.Core.Bool.{true, not, _&&_}
 use mathlib.Core.List.{List, [], _∷_, List·Memᴰ, List·Memᴰ·not-nil, List·Memᴰ·cases-cons}
 use mathlib.Core.Logic.{_↔_, ⊎-elim}
-use Prim.Native.Nat.{ℕ}
+use Prim.Native.Nat.{ℕ, _+_, _*_, _/_}
+use native.Mathlib.Omega.{arith}
 use lib.Dec.{eqb}
 use lib.ListN.{getD}
 use borrow.Author.Tests.{eqb-true, not-true}
@@ -49,10 +50,13 @@ use Rattle.logs.specs.LogCalls.{plan-and-log, replayed}
 use Rattle.deterministic.specs.Deterministic.{is-choice, choice-with, choice-among, no-choice}
 use Rattle.deterministic.specs.CompleteRuns.{SameRuns, by-each, runs-within, each-rest, ends-within, equal-lists, same-runs-within}
 use Rattle.deterministic.proofs.RunsListed.{same-runs-listed}
+use Rattle.growth.specs.Growth.{Finite, Endless, JobCount, GrowthSays}
+use Rattle.growth.specs.Reached.{members-from, set-from, has-job, comes-in, widened, widened-by, reached, all-but-last, fronts, grows-at, one-of, grows, growth}
+use Rattle.growth.proofs.GrowthExact.{growth-says}
 use Rattle.promises.specs.WorkedCases.{Worked, image-of, read-back, listed, HasNorms, Means, plan-passes, pair-passes, has-form}
 use Rattle.promises.specs.WorkedCases.{listed-under, under-passes, passes, all-pass, cases, Cases-hold}
 use Rattle.promises.specs.WorkedCases.{Case, refusal-is, byte-is, norms-are, pair-refusal-is, are-same, are-apart, form-is, is-prime, move-is, run-is}
-use Rattle.promises.specs.WorkedCases.{alike-refusal-is, same-under, apart-under, log-refusal-is, replay-is, outcome-is, same-runs-apart, log-passes, list-passes}
+use Rattle.promises.specs.WorkedCases.{alike-refusal-is, same-under, apart-under, log-refusal-is, replay-is, outcome-is, same-runs-apart, is-finite, is-endless, log-passes, list-passes}
 
 -- THE COMPUTED PROOF
 cases-pass : all-pass cases ≡ true
@@ -67,6 +71,7 @@ unfolding all-pass passes has-form plan-passes pair-passes equal-plans same-move
     alike.replace replaced-rule replaced stands-in from-twice from-as-to clashes
     list-passes one-if is-choice choice-with choice-among no-choice by-each runs-within each-rest ends-within equal-lists same-runs-within
     log-passes log-refusal counted-log log-moves all-low-first numbers-in by-move after-move none-left one-empty replay-from replay
+    members-from set-from has-job comes-in widened widened-by reached all-but-last fronts grows-at one-of grows growth
 cases-pass = refl
 
 module _ (w : Worked) where
@@ -221,6 +226,11 @@ module _ (w : Worked) where
   unfolding has-form
   form-holds p f e = row-holds p (λ t. prime-form t p) f e (λ t. Form t p) (λ t g. form-exists t g p)
 
+  -- what a plan can become, by its number
+  growth-holds : (p : List ℕ) (n : ℕ) → (plan-passes w p && equal-plans (growth (listed w) p ∷ []) (n ∷ [])) ≡ true →
+      (one-plan (image-of w) p ≡ 0) × GrowthSays (read-back w) p n
+  growth-holds p n e = row-holds p (λ t. growth t p ∷ []) (n ∷ []) e (λ t l. GrowthSays t p (getD l 0 0)) (λ t g o. growth-says t (norms t) g p o)
+
 form-prime : (t : Table) (j : ℕ) → Form t (j ∷ []) (j ∷ []) → Prime t j
 form-prime t j f = go (f .lowest)
   where
@@ -268,6 +278,14 @@ case-true (same-runs-apart w n p q) e =
     let k = and-left apart (same-runs-within (listed w) n p q) e in
     let (a, b) = apart-holds w p q k in
     (a, pair-runs w p q (and-left (pair-passes w p q) (not (same (listed w) p q)) k) n (and-right apart (same-runs-within (listed w) n p q) e), b)
+case-true (is-finite w p n) e =
+    let (z, (odd, even, count)) = growth-holds w p (2 * n) e in
+    let half : 2 * n / 2 ≡ n = omega arith in
+    (z, subst (JobCount (read-back w) p) half count, even .0 (omega arith))
+case-true (is-endless w p n) e =
+    let (z, (odd, even, count)) = growth-holds w p (2 * n + 1) e in
+    let half : (2 * n + 1) / 2 ≡ n = omega arith in
+    (z, subst (JobCount (read-back w) p) half count, odd .0 (omega arith))
 case-true (move-is w p n bs) e =
     let row : Table → List ℕ = λ t. move-bytes (shown t p) n in
     (both-passed w (check-plan w p row bs e) (plan-passed w p row bs e), row-back w p row bs e)

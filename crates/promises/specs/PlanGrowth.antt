@@ -12,7 +12,7 @@ use Rattle.bpa.specs.Bisimilar.{Bisimilar}
 use Rattle.refusal.specs.Refusals.{Accepted}
 use Rattle.image.specs.Image.{table-in}
 use Rattle.first_run.specs.FirstRun.{SameRules}
-use Rattle.growth.specs.Growth.{Finite, Endless, ReachesJob, SomeComesRound, Bounded, Unbounded, JobCount}
+use Rattle.growth.specs.Growth.{Finite, Endless, ReachesJob, SomeComesRound, Bounded, Unbounded, JobCount, GrowthSays}
 use Rattle.growth.specs.Reached.{has, members, reached, grows, growth}
 use Rattle.plan_growth.specs.GrowthCalls.{Grown}
 
@@ -64,9 +64,7 @@ Growth-reordered =
 -- OF THE CALL. The number is odd exactly if the plan is endless and even exactly if it is finite, and half of it is the number of jobs that the plan can
 -- reach
 unfoldable pub Growth-told : Type 0
-Growth-told =
-    (bs p : List ℕ) (n : ℕ) → Grown bs p (pos n) →
-    ((n % 2 ≡ 1) ↔ Endless (table-in bs) p) × ((n % 2 ≡ 0) ↔ Finite (table-in bs) p) × JobCount (table-in bs) p (n / 2)
+Growth-told = (bs p : List ℕ) (n : ℕ) → Grown bs p (pos n) → GrowthSays (table-in bs) p n
 
 -- a plan that is finite never has more jobs than its own and three for each job that it can reach
 unfoldable pub Growth-bounded : Type 0

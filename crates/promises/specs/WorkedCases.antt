@@ -1,12 +1,12 @@
 -- The worked tables of document 01 marked P, two of them from 000, one whose moves need two bytes, one with a choice written again and again, and
--- one with several shortest runs, in two orders; alike lists, logs, and choices of outcome: one list of cases, what each
--- means, and one test over them.
+-- one with several shortest runs, in two orders; alike lists, logs, choices of outcome, and growth: one list of cases, what
+-- each means, and one test over them.
 -- The test computes on the rules of a table; the meaning is of the image that is written from them. Assumes nothing: these are
 -- definitions.
 use mathlib.Core.Path.{_≡_}
 use mathlib.Core.Bool.{Bool, true, not, _&&_}
 use mathlib.Core.List.{List, [], _∷_, _++_, List·Memᴰ}
-use Prim.Native.Nat.{ℕ, _<_}
+use Prim.Native.Nat.{ℕ, _+_, _*_, _<_}
 use lib.Dec.{eqb}
 use lib.ListN.{getD}
 use Rattle.area.specs.Numbers.{all-low-first}
@@ -32,6 +32,8 @@ use Rattle.log_moves.specs.Logs.{counted-log, log-refusal}
 use Rattle.logs.specs.LogCalls.{plan-and-log, replayed}
 use Rattle.deterministic.specs.Deterministic.{no-choice}
 use Rattle.deterministic.specs.CompleteRuns.{SameRuns, same-runs-within}
+use Rattle.growth.specs.Growth.{Finite, Endless, JobCount}
+use Rattle.growth.specs.Reached.{growth}
 
 -- A WORKED TABLE: a job count, and the rules as 8-byte places in a row
 pub record Worked : Type 0 where
@@ -74,6 +76,9 @@ pub data Case : Type 0 where
   outcome-is : (list : List ℕ) (w : Worked) (answer : ℕ) → Case
   -- two plans that are apart and allow the same complete runs, none of which has more moves than so many
   same-runs-apart : (w : Worked) (most : ℕ) (left right : List ℕ) → Case
+  -- a plan that is finite or endless, and how many jobs it can reach
+  is-finite : (w : Worked) (plan : List ℕ) (jobs : ℕ) → Case
+  is-endless : (w : Worked) (plan : List ℕ) (jobs : ℕ) → Case
 
 -- a job of norm 0 has no run to its end
 abbrev pub HasNorms : Table → (jobs : ℕ) → (by-job : List ℕ) → Type 0
@@ -100,6 +105,8 @@ Means (replay-is ls w p g n) = (plan-and-log (image-of w) ls p g ≡ 0) × (repl
 Means (outcome-is ls w n) = (listed-refusal (image-of w) ls ≡ 0) × (one-if (no-choice (alike-table (image-of w) ls)) ≡ n)
 Means (same-runs-apart w n p q) =
     (two-plans (image-of w) p q ≡ 0) × SameRuns (read-back w) p q × (Bisimilar (read-back w) p q → ⊥)
+Means (is-finite w p n) = (one-plan (image-of w) p ≡ 0) × JobCount (read-back w) p n × Finite (read-back w) p
+Means (is-endless w p n) = (one-plan (image-of w) p ≡ 0) × JobCount (read-back w) p n × Endless (read-back w) p
 
 -- THE TEST
 -- no refusal meets the list and the plans
@@ -145,6 +152,8 @@ passes (log-refusal-is g f) = eqb (log-refusal g) f
 passes (replay-is ls w p g n) = log-passes ls w p g && eqb (replay (listed-under ls w) p (counted-log ls g)) n
 passes (outcome-is ls w n) = list-passes ls w && eqb (one-if (no-choice (listed-under ls w))) n
 passes (same-runs-apart w n p q) = (pair-passes w p q && not (same (listed w) p q)) && same-runs-within (listed w) n p q
+passes (is-finite w p n) = plan-passes w p && equal-plans (growth (listed w) p ∷ []) ((2 * n) ∷ [])
+passes (is-endless w p n) = plan-passes w p && equal-plans (growth (listed w) p ∷ []) ((2 * n + 1) ∷ [])
 
 unfoldable pub all-pass : List Case → Bool
 all-pass [] = true
@@ -228,6 +237,13 @@ ties-reordered =
           to-none 0 99;
     }
 
+-- a job that comes back at the last place of a row only, so that none waits behind it; and one that comes round by way of another, with a third behind it
+abbrev pub back-at-last : Worked
+back-at-last = record { jobs = 2; rules = to-two 0 97 1 0 ++ to-none 0 98 ++ to-none 1 98 }
+
+abbrev pub round-by-two : Worked
+round-by-two = record { jobs = 4; rules = to-one 0 97 1 ++ to-none 0 98 ++ to-two 1 97 0 2 ++ to-none 2 98 ++ to-two 3 97 2 2 }
+
 -- a pair of an alike list, of moves below 256
 abbrev pub pair : (from to : ℕ) → List ℕ
 pair a b = a ∷ 0 ∷ b ∷ 0 ∷ []
@@ -278,7 +294,11 @@ cases =
     outcome-is [] table-t 1 ∷ outcome-is [] late-choice 0 ∷ outcome-is [] growing 1 ∷ outcome-is (pair 98 97) growing 0 ∷
     outcome-is [] twice-at-one 1 ∷ outcome-is [] back-or-done 0 ∷ outcome-is [] larger-moves 1 ∷
     outcome-is (232 ∷ 3 ∷ 232 ∷ 0 ∷ []) larger-moves 1 ∷ outcome-is [] choice-repeated 0 ∷ outcome-is (pair 99 98) late-choice 0 ∷
-    same-runs-apart late-choice 2 (0 ∷ []) (2 ∷ []) ∷ []
+    same-runs-apart late-choice 2 (0 ∷ []) (2 ∷ []) ∷
+    is-finite table-t [] 0 ∷ is-finite table-t (2 ∷ 3 ∷ []) 4 ∷ is-finite table-t (1 ∷ 1 ∷ []) 2 ∷ is-finite back-or-done (0 ∷ []) 1 ∷
+    is-endless growing (0 ∷ []) 3 ∷ is-endless growing (2 ∷ 1 ∷ []) 2 ∷ is-finite growing (2 ∷ 2 ∷ []) 1 ∷
+    is-finite back-at-last (0 ∷ 1 ∷ []) 2 ∷ is-endless round-by-two (0 ∷ []) 3 ∷ is-endless round-by-two (3 ∷ 1 ∷ []) 4 ∷
+    is-finite round-by-two (3 ∷ []) 2 ∷ []
 
 -- EVERY CASE IS TRUE
 unfoldable pub Cases-hold : Type 0
