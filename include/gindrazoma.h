@@ -48,9 +48,9 @@
 
 /* The version of this header, and of the archive that it belongs to. */
 #define GINDRAZOMA_VERSION_MAJOR 3
-#define GINDRAZOMA_VERSION_MINOR 4
+#define GINDRAZOMA_VERSION_MINOR 5
 #define GINDRAZOMA_VERSION_PATCH 0
-#define GINDRAZOMA_VERSION "3.4.0"
+#define GINDRAZOMA_VERSION "3.5.0"
 
 #ifdef __cplusplus
 extern "C" {
@@ -220,6 +220,22 @@ int32_t gindrazoma_replay_log(const uint8_t *image, size_t image_len, const uint
  * Refusals: 2, 3, 4, 5, 6, 7, 12, 13, in this order.
  */
 int32_t gindrazoma_deterministic(const uint8_t *image, size_t image_len, const uint8_t *alike, size_t alike_len);
+
+/*
+ * Whether a plan ever grows, and how many jobs it reaches. The plans that it can become are those that some moves, or
+ * none, lead to. It is endless if it can become infinitely many plans of which no two are the same, so that there is no
+ * bound on their number, and finite otherwise.
+ *
+ * It is endless exactly if some job that it reaches can come round to itself with further jobs behind it: a rule of that
+ * job has, before the last job of its row, one that is this job or reaches it. A job that comes round at the last place
+ * of rows only leaves nothing behind it, and the plan stays finite. The moves of the rules do not matter, nor their
+ * order, nor how often one is written. Every job of an accepted table can finish, so each job of a plan has its turn.
+ *
+ * Answer: twice the number of different jobs that stand in the plan or in any plan that it can become, and 1 more if it
+ * is endless: 0 (the empty plan, which is finite) to 49. No area is written to.
+ * Refusals: 2, 3, 4, 5, 6, 7, 8, 9.
+ */
+int32_t gindrazoma_plan_growth(const uint8_t *image, size_t image_len, const uint8_t *plan, size_t plan_len);
 
 #ifdef __cplusplus
 }
