@@ -63,4 +63,5 @@ calls! {
     fn prime_form_alike(image: &[u8], alike: &[u8], plan: &[u8], out: &mut [u8], space: &mut [u8]);
     fn replay_log(image: &[u8], alike: &[u8], plan: &[u8], log: &[u8], space: &mut [u8]);
     fn deterministic(image: &[u8], alike: &[u8]);
+    fn plan_growth(image: &[u8], plan: &[u8]);
 }

@@ -1,4 +1,4 @@
-use crate::{raw, Alike, Refusal, Replay};
+use crate::{raw, Alike, Growth, Refusal, Replay};
 
 /// A job may make a move and then becomes 0 to 4 jobs.
 #[derive(Clone, Debug, PartialEq, Eq, Hash)]
@@ -175,5 +175,25 @@ impl Table {
     #[inline]
     pub fn deterministic_alike(&self, alike: &Alike) -> Result<bool, Refusal> {
         Refusal::check(raw::deterministic(&self.image, alike.bytes())).map(|answer| answer == 1)
+    }
+
+    /// Whether a plan ever grows, and how many different jobs stand in it or in any plan that it can become.
+    ///
+    /// It is endless exactly if some job that it reaches can come round to itself with further jobs behind it: a rule of that job has,
+    /// before the last job of its row, one that is this job or reaches it. The moves of the rules do not matter, nor their order.
+    ///
+    /// ```
+    /// use gindrazoma::{Growth, Rule, Table};
+    /// let ends = [0, 1, 2].map(|job| Rule::new(job, 98, &[]));
+    /// let table = Table::from_rules(3, &[&ends[..], &[Rule::new(1, 97, &[0, 1]), Rule::new(2, 97, &[2, 0])]].concat())?;
+    /// assert_eq!(table.growth(&[1])?, Growth { jobs: 2, endless: false }); // job 1 comes round at the end of its row
+    /// assert_eq!(table.growth(&[2])?, Growth { jobs: 2, endless: true }); // job 2 comes round, and one job 0 more waits each time
+    /// assert_eq!(table.growth(&[1, 2])?, Growth { jobs: 3, endless: true });
+    /// assert_eq!(table.growth(&[])?, Growth { jobs: 0, endless: false });
+    /// # Ok::<(), gindrazoma::Refusal>(())
+    /// ```
+    #[inline]
+    pub fn growth(&self, plan: &[u8]) -> Result<Growth, Refusal> {
+        Refusal::check(raw::plan_growth(&self.image, plan)).map(Growth::of_answer)
     }
 }
