@@ -132,9 +132,13 @@ int refusal_of_list(uint32_t jobs, const uint8_t *rules, size_t len);
 int refusal_of_pairs(void);
 int refusal_in_force(void);      /* that of the image in force, or else that of the list */
 
-/* An image comes into force that is refused with this number, 2 to 7, or accepted with 0; or one with a set of defects, bit k for refusal k. */
+/*
+ * An image comes into force that is refused with this number, 2 to 7, or accepted with 0; or one with a set of defects, bit k for refusal k;
+ * or that of a table, with those of the defects 2 to 6.
+ */
 void use_image_refused(int refusal);
 void use_image_with(int set);
+void use_with(struct table t, int set);
 
 /* Defects beside those of the image, and what is answered with a set of them; a call has further ones from DEFECTS on. */
 enum { SHORT_SPACE = 1, HALF_PAIR = 2, MANY_PAIRS = 4, CLASH = 8, NO_JOB = 16, HIGH_NORM = 32, DEFECTS = 64 };

@@ -528,13 +528,7 @@ static void refusals_before_choices(void)
         const int refusal = refusals[i];
         struct table t = table_doubling(refusal == 7 ? 10 : 9);
         rule1(&t, 0, 'a', 0);
-        t.jobs += refusal == 6;
-        t.bytes[8 * 8 + 2] = refusal == 5 ? 5 : 2;
-        use(&t);
-        image[506] = refusal == 4;
-        seal(image);
-        image[510] ^= refusal == 3;
-        image_len -= refusal == 2;
+        use_with(t, 1 << refusal);
         CHECK_EQ(refusal_of_image(image, image_len), refusal);
         answered(-refusal);
         for (int set = 0; set < NO_JOB; set++) {

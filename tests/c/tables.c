@@ -467,9 +467,8 @@ int refusal_in_force(void)
     return refusal != 0 ? refusal : refusal_of_pairs();
 }
 
-void use_image_with(int set)
+void use_with(struct table t, int set)
 {
-    struct table t = table_doubling(set >> 7 & 1 ? 10 : 9);
     if (set >> 6 & 1)
         t.jobs++;
     if (set >> 5 & 1)
@@ -481,7 +480,12 @@ void use_image_with(int set)
     if (set >> 3 & 1)
         image[511] ^= 1;
     if (set >> 2 & 1)
-        image_len = 511;
+        image_len--;
+}
+
+void use_image_with(int set)
+{
+    use_with(table_doubling(set >> 7 & 1 ? 10 : 9), set);
 }
 
 void use_image_refused(int refusal)
