@@ -8,7 +8,7 @@
 #include <stdlib.h>
 #include <string.h>
 
-enum { OUT = 8192, TABLES = 7, CALLS = 512, KINDS = 11, THREADS = 8, STACK = 1 << 20 };
+enum { OUT = 8192, TABLES = 7, CALLS = 512, KINDS = 12, THREADS = 8, STACK = 1 << 20 };
 
 static struct table tables[TABLES];
 static uint8_t images[TABLES][2560];
@@ -50,7 +50,8 @@ static int32_t make(const struct call *c, struct areas *a)
                                                a->space, SPACE + c->index);
     case 9: return gindrazoma_replay_log(image, len, c->alike, c->alike_len, c->left, c->left_len, c->log, c->log_len,
                                          a->space, SPACE + c->index);
-    default: return gindrazoma_deterministic(image, len, c->alike, c->alike_len);
+    case 10: return gindrazoma_deterministic(image, len, c->alike, c->alike_len);
+    default: return gindrazoma_plan_growth(image, len, c->left, c->left_len);
     }
 }
 
@@ -224,7 +225,8 @@ static size_t stack_of(struct call *c)
 static void stack_under_16_kib(void)
 {
     static const char *const names[KINDS] = { "read_image", "write_image", "plan_norm", "shortest_run", "nth_move", "compare",
-                                              "prime_form", "compare_alike", "prime_form_alike", "replay_log", "deterministic" };
+                                              "prime_form", "compare_alike", "prime_form_alike", "replay_log", "deterministic",
+                                              "plan_growth" };
     size_t most[KINDS] = { 0 }, none;
     if (small_run())
         return; /* valgrind does not let a stack be looked at */
