@@ -19,4 +19,5 @@ pub mod second;
 pub mod shapes;
 pub mod space;
 pub mod table;
+pub mod tally;
 pub mod ties;

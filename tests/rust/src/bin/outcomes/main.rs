@@ -4,14 +4,12 @@ mod calls;
 mod fixed;
 mod random;
 mod runs;
-mod tally;
 
 use outside::harness::{often, Suite};
 use outside::outcomes::{kinds, KINDS};
-use outside::rng::Rng;
 use outside::shapes::{Shape, SHAPES};
+use outside::tally::Tally;
 use std::process::ExitCode;
-use tally::Tally;
 
 fn main() -> ExitCode {
     let (answers, pairs) = (Tally::of(&random::ANSWERS), Tally::of(&runs::KINDS));
@@ -28,16 +26,12 @@ fn main() -> ExitCode {
         let count = if shape == Shape::Full { 40 } else { 200 };
         suite.random(&format!("shape {shape:?}"), count, move |rng| random::under_a_list(rng, shape));
     }
-    let counted = |tally: &Tally, run: fn(&mut Rng, &Tally) -> _| {
-        let tally = tally.clone();
-        move |rng: &mut Rng| run(rng, &tally)
-    };
-    suite.random("few choices", 4000, counted(&answers, random::few_choices));
+    suite.random("few choices", 4000, answers.counted(random::few_choices));
     suite.random("one rule changed", 300, random::one_rule_changed);
     suite.random("one call after the other", 100, random::one_after_the_other);
     suite.random("refused calls", 4000, random::refused_calls);
-    suite.random("plans whose runs end", 1500, counted(&pairs, runs::plans_whose_runs_end));
-    suite.random("plans whose runs may go on", 1500, counted(&pairs, runs::plans_whose_runs_may_go_on));
+    suite.random("plans whose runs end", 1500, pairs.counted(runs::plans_whose_runs_end));
+    suite.random("plans whose runs may go on", 1500, pairs.counted(runs::plans_whose_runs_may_go_on));
     suite.fixed("how often each answer came", move || answers.all_came());
     suite.fixed("how often each kind of pair came", move || pairs.all_came());
     suite.finish()

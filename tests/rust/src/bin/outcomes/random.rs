@@ -1,6 +1,5 @@
 //! Cases with random numbers.
 use crate::calls::Calls;
-use crate::tally::Tally;
 use outside::alike::{listed, Listed};
 use outside::damage::{damaged, damaged_list};
 use outside::harness::Outcome;
@@ -9,6 +8,7 @@ use outside::refusals::{of_alike, of_image};
 use outside::repeated::{nearly_repeated, one_thing_changed, write_again};
 use outside::rng::Rng;
 use outside::shapes::{Made, Shape, SHAPES};
+use outside::tally::Tally;
 use outside::{ensure, ensure_eq};
 
 /// A table of any shape or one of few choices, with a list or without; often one by which moves of rules become one.

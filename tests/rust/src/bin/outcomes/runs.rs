@@ -1,6 +1,5 @@
 //! What "same" and "apart" say about complete runs, over tables with a choice of outcome and without.
 use crate::calls::Calls;
-use crate::tally::Tally;
 use gindrazoma::raw::{compare_alike, replay_log};
 use outside::alike::{listed, Listed};
 use outside::complete_runs::{complete_runs, walked, Walk};
@@ -12,6 +11,7 @@ use outside::rng::Rng;
 use outside::shapes::Made;
 use outside::space::SPACE;
 use outside::table::Plan;
+use outside::tally::Tally;
 use outside::{ensure, ensure_eq};
 
 pub const KINDS: [&str; 8] = [NONE_SAME, NONE_APART, SAME, APART, EQUAL_RUNS, GOING_SAME, GOING_APART, GOING_EQUAL_RUNS];

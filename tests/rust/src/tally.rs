@@ -1,6 +1,7 @@
 //! How often each of several things came in random cases.
-use outside::ensure;
-use outside::harness::Outcome;
+use crate::ensure;
+use crate::harness::Outcome;
+use crate::rng::Rng;
 use std::cell::RefCell;
 use std::collections::BTreeMap;
 use std::rc::Rc;
@@ -22,6 +23,12 @@ impl Tally {
     pub fn came(&self, kind: &'static str) {
         assert!(self.kinds.contains(&kind), "{kind} is none of the kinds");
         *self.counts.borrow_mut().entry(kind).or_default() += 1;
+    }
+
+    /// A random case that is told what comes in it.
+    pub fn counted(&self, run: fn(&mut Rng, &Tally) -> Outcome) -> impl Fn(&mut Rng) -> Outcome + 'static {
+        let tally = self.clone();
+        move |rng| run(rng, &tally)
     }
 
     fn count(&self, kind: &str) -> u64 {
