@@ -1,10 +1,11 @@
 //! What the tests over the archive are made of: tables by the definitions, a second comparer, a second way to first runs and to
-//! replays, complete runs, random shapes, alike lists and logs, guarded areas.
+//! replays, complete runs, plans that are reached, random shapes, alike lists and logs, guarded areas.
 pub mod alike;
 pub mod area;
 pub mod complete_runs;
 pub mod damage;
 pub mod first_run;
+pub mod growth;
 pub mod harness;
 pub mod logs;
 pub mod old_format;
