@@ -1,5 +1,5 @@
 //! The calls to time, and a program of calls and nothing else, for a tool that counts instructions.
-use crate::inputs::{single_table, Input, Pair, SINGLE_TABLES};
+use crate::inputs::{names_with, single_table, Input, Pair};
 use crate::pairs::PLAN_NORM;
 use outside::table::put_plan;
 use std::io::{stdin, stdout, Read, Write};
@@ -60,7 +60,7 @@ const PAIRS: usize = 12;
 impl Inputs {
     /// The tables that are timed alone.
     pub fn single_tables() -> Inputs {
-        let names = SINGLE_TABLES.iter().map(|(name, ..)| *name).collect();
+        let names = names_with(std::iter::empty());
         Inputs { names, pairs: PAIRS, make: |i| single_table(1, i, PAIRS), areas: |image| image.to_vec() }
     }
 }

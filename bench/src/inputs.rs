@@ -45,6 +45,11 @@ pub const SINGLE_TABLES: [SingleTable; 7] = [
     ("252 rules, norms up to 512", 2..=2, hostile::long),
 ];
 
+/// The names of those tables, and of further ones.
+pub fn names_with(further: impl Iterator<Item = &'static str>) -> Vec<&'static str> {
+    SINGLE_TABLES.iter().map(|(name, ..)| *name).chain(further).collect()
+}
+
 /// One of those tables, and so many pairs; from random numbers of its own, so that it can be made alone. Few of its rules are
 /// written twice.
 pub fn single_table(seed: u64, index: usize, count: usize) -> Input {
@@ -78,12 +83,12 @@ pub fn light_and_full(rng: &mut Rng) -> [(&'static str, Vec<Input>); 2] {
 }
 
 /// Five tables of so many jobs and rules.
-pub fn growth(rng: &mut Rng, jobs: usize, rules: usize) -> Vec<Input> {
+pub fn by_size(rng: &mut Rng, jobs: usize, rules: usize) -> Vec<Input> {
     (0..5)
         .map(|_| {
             let made = Made::of_size(rng, jobs, rules);
             let pairs = some_pairs(rng, &made, 10);
-            input("growth", &made, pairs)
+            input("by size", &made, pairs)
         })
         .collect()
 }

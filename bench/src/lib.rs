@@ -1,6 +1,7 @@
 //! Tables and plans to time, and the programs that only make calls.
 pub mod alike;
 pub mod calls;
+pub mod growth;
 mod hostile;
 mod hostile_runs;
 pub mod inputs;

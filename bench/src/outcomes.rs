@@ -1,6 +1,6 @@
 //! Tables to ask for a choice of outcome, without an alike list and under one of 32 pairs.
 use crate::calls::Program;
-use crate::inputs::{single_table, Input, SINGLE_TABLES};
+use crate::inputs::{names_with, single_table, Input, SINGLE_TABLES};
 use crate::logs::{a_move_each, image_len};
 use outside::table::{rule, Table};
 
@@ -34,8 +34,7 @@ pub const OUTCOME_TABLES: [(&str, fn() -> Table); 4] = [
 ];
 
 pub fn names() -> Vec<&'static str> {
-    let timed_alone = SINGLE_TABLES.iter().map(|(name, ..)| *name);
-    timed_alone.chain(OUTCOME_TABLES.iter().map(|(name, _)| *name)).collect()
+    names_with(OUTCOME_TABLES.iter().map(|(name, _)| *name))
 }
 
 /// A table by its place among the names, with two empty plans, which the calls do not look at.

@@ -1,7 +1,7 @@
 //! The calls of gindrazoma as an ordinary Rust program: the baseline of the benchmark. Compare and prime form are there
 //! three times: by document 01's method as one writes it at first (`first`) and with every choice of speed (`base`), and
 //! by the library's method (`rows`); the shortest run twice, as it is written at first and with every choice of speed; the replay of a
-//! log and the test for a choice of outcome once, under an alike list. Answers, refusals and areas are those of include/gindrazoma.h.
+//! log and the test for a choice of outcome once, under an alike list; and the test whether a plan grows. Answers, refusals and areas are those of include/gindrazoma.h.
 #![no_std]
 #![forbid(unsafe_code)]
 
@@ -11,6 +11,7 @@ mod alike;
 pub mod base;
 pub mod first;
 mod first_runs;
+mod growth;
 mod held_pairs;
 mod image;
 mod index;
@@ -124,6 +125,14 @@ pub fn deterministic(image: &[u8], alike: &[u8]) -> i32 {
         let (mut table, _) = checked(image)?;
         Alike::load(alike)?.replace(table.actions());
         Ok(outcomes::without_choice(&table) as i32)
+    })
+}
+
+pub fn plan_growth(image: &[u8], plan: &[u8]) -> i32 {
+    answer(|| {
+        let (table, norms) = checked(image)?;
+        plan_norms(&norms, table.jobs, [plan])?;
+        Ok(growth::growth(&table, plan))
     })
 }
 

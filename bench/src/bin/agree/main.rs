@@ -1,19 +1,24 @@
 //! The plain programs beside the second comparer, the second way to first runs and the replay by all plans that are reached: what the
 //! benchmark measures against answers rightly, and writes moves by the definitions. The library and they on the plans, the alike
-//! lists and the logs that are timed, which are as they shall be. The library on the tables that are asked for a choice of outcome.
+//! lists and the logs that are timed, which are as they shall be. The library on the tables that are asked for a choice of outcome,
+//! and on the plans that are asked whether they grow.
 mod logs;
 
 use bench::alike::{areas, ALIKE, LISTS};
 use bench::calls::{runs, COMPARE, RUN};
+use bench::growth::{growth_input, names as growth_names, GROWTH, GROWTH_TABLES};
 use bench::inputs::{hostile_runs, single_table, Input, SINGLE_TABLES};
 use bench::logs::{self as timed_logs, LOG_TABLES};
 use bench::outcomes::{names, outcome_input, OUTCOME};
 use bench::pairs::{place_of, NEAR, PLAN_NORM};
 use outside::alike::{self, moves_of, PAIRS_MAX};
+use outside::damage::damaged;
 use outside::first_run::{bytes_of, first_run};
+use outside::growth::{by_components, Asked, LARGE};
 use outside::harness::{Outcome, Suite};
 use outside::outcomes::without_choice;
-use outside::refusals::of_alike;
+use outside::refusals::{of_alike, of_plans, table_of_image};
+use outside::refused::any_plan;
 use outside::repeated::repeated;
 use outside::rng::Rng;
 use outside::second::Second;
@@ -41,6 +46,7 @@ fn main() -> ExitCode {
     suite.random("plain, tied runs", 200, tied_runs);
     suite.random("plain, logs", 300, logs::on_plans);
     suite.random("plain, refused logs", 1000, logs::refused);
+    suite.random("plain, growth of plans", 1000, grown);
     for (index, (name, ..)) in SINGLE_TABLES.iter().enumerate() {
         suite.fixed(&format!("1,000 pairs, {name}"), move || one_table(index));
     }
@@ -52,6 +58,9 @@ fn main() -> ExitCode {
     }
     for (index, name) in names().into_iter().enumerate() {
         suite.fixed(&format!("outcome, {name}"), move || outcome(index));
+    }
+    for (index, name) in growth_names().into_iter().enumerate() {
+        suite.fixed(&format!("growth, {name}"), move || growth(index));
     }
     suite.finish()
 }
@@ -211,6 +220,41 @@ fn outcome(index: usize) -> Outcome {
     for (name, call) in OUTCOME {
         let answer = call(&timed_logs::areas(&input.table), &input.pairs[0], &mut []);
         ensure_eq!(answer, i32::from(without), "{name}: {:?}", input.table);
+    }
+    Ok(())
+}
+
+/// Tables that grow or nearly so, and perhaps damage to image and plan: the refusal of the documents, or the answer over what they mean.
+fn grown(rng: &mut Rng) -> Outcome {
+    let asked = Asked::new(rng, &LARGE);
+    let (mut image, mut plan) = (asked.made.table.image(), asked.plan);
+    if rng.once_in(3) {
+        image = damaged(rng, &image);
+    }
+    if rng.once_in(3) {
+        plan = any_plan(rng, &asked.made);
+    }
+    let wanted = match of_plans(&image, &[&plan]) {
+        0 => by_components(&table_of_image(&image), &plan),
+        refusal => -i32::from(refusal),
+    };
+    for (name, call) in GROWTH {
+        let answer = call(&image, &(plan.clone(), Vec::new()), &mut []);
+        ensure_eq!(answer, wanted, "{name}: {plan:?} over {:?}", image);
+    }
+    Ok(())
+}
+
+/// Both programs answer rightly on a plan that is timed; those besides the tables that are timed alone have the answers that they shall have.
+fn growth(index: usize) -> Outcome {
+    let input = growth_input(index);
+    let (plan, _) = &input.pairs[0];
+    let wanted = by_components(&input.table, plan);
+    if let Some(further) = index.checked_sub(SINGLE_TABLES.len()) {
+        ensure_eq!(wanted, GROWTH_TABLES[further].1, "the answer about {}", input.name);
+    }
+    for (name, call) in GROWTH {
+        ensure_eq!(call(&input.image, &input.pairs[0], &mut []), wanted, "{name}: {plan:?} over {:?}", input.table);
     }
     Ok(())
 }

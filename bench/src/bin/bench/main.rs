@@ -3,7 +3,8 @@ mod timing;
 
 use bench::alike::{areas, ALIKE, LISTS};
 use bench::calls::{runs, Program, COMPARE, NORM, RUN};
-use bench::inputs::{growth, hostile, hostile_runs, light_and_full, single_table, Input, Pair, SINGLE_TABLES};
+use bench::growth::{growth_input, names as growth_names, GROWTH};
+use bench::inputs::{by_size, hostile, hostile_runs, light_and_full, single_table, Input, Pair, SINGLE_TABLES};
 use bench::logs::{self, log_input, LOG, LOG_TABLES};
 use bench::outcomes::{names as outcome_names, outcome_input, OUTCOME};
 use outside::rng::Rng;
@@ -33,11 +34,12 @@ fn main() -> ExitCode {
     let most = bench.one_table(seed);
     bench.many_tables();
     bench.hostile_tables();
-    bench.growth();
+    bench.by_size();
     let most_of_runs = bench.shortest_runs(seed);
     let most_of_lists = bench.alike_lists(seed);
     let most_of_logs = bench.logs();
     bench.outcomes();
+    bench.plan_growth();
     let differ = bench.differ;
     let judged = [
         ("1,000 comparisons over one table take", most, "times as long as in the fastest plain program", BOUND),
@@ -133,13 +135,13 @@ impl Bench {
         steps
     }
 
-    fn growth(&mut self) {
+    fn by_size(&mut self) {
         println!("\ncompare by jobs and rules: microseconds a call of the library, and its ratios to base and rows");
         println!("{:<6}{:>23}{:>23}{:>23}{:>23}", "jobs", "24 rules", "63 rules", "126 rules", "252 rules");
         for jobs in [3, 6, 12, 24] {
             let mut line = format!("{jobs:<6}");
             for rules in [24, 63, 126, 252] {
-                let inputs = growth(&mut self.rng, jobs, rules);
+                let inputs = by_size(&mut self.rng, jobs, rules);
                 self.compare_answers(&inputs);
                 let [library, _, base, rows] = average(7, &COMPARE, &inputs);
                 line += &format!(" {library:>10.1}{:>6.2}{:>6.2}", library / base, library / rows);
@@ -221,6 +223,18 @@ impl Bench {
         println!("{:<28}{}{:>8}{:>8}", "table", names(&OUTCOME), "/plain", "/plain+");
         for index in 0..outcome_names().len() {
             self.with_and_without_list(2000, &OUTCOME, outcome_input(index));
+        }
+    }
+
+    fn plan_growth(&mut self) {
+        println!("\nwhether a plan grows; over the tables of the first section a plan of norm 4,096: microseconds a call, the");
+        println!("library's ratio");
+        println!("{:<28}{}", "table", head(&GROWTH));
+        for index in 0..growth_names().len() {
+            let input = growth_input(index);
+            let answers = GROWTH.map(|(_, call)| call(&input.image, &input.pairs[0], &mut []));
+            self.differ += usize::from(answers[0] != answers[1]);
+            println!("{:<28}{}", input.name, row(average(2000, &GROWTH, std::slice::from_ref(&input))));
         }
     }
 
