@@ -2,7 +2,8 @@
 // result, or a refusal's number made negative; no call keeps anything for the next.
 ghost use Rattle.images.specs.ImageCalls.{Read, Written};
 ghost use Rattle.plans.specs.PlanCalls.{Normed, Moved, RanFirst};
-ghost use Rattle.sameness.specs.SamenessCalls.{Compared, Formed, ComparedAlike, FormedAlike};
+ghost use Rattle.sameness.specs.SamenessCalls.{Compared, ComparedAlike};
+ghost use Rattle.prime_forms.specs.FormCalls.{Formed, FormedAlike};
 ghost use Rattle.logs.specs.LogCalls.{Replayed};
 ghost use Rattle.outcomes.specs.OutcomeCalls.{Determined};
 ghost use Rattle.plan_growth.specs.GrowthCalls.{Grown};
@@ -70,7 +71,7 @@ pub extern "C" fn gindrazoma_prime_form(
 ) -> i32
     ensures { λ r. ⌜ Formed (now (image .entry)) (now (plan .entry)) (now (out .entry)) (now (space .entry)) r (now (out .exit)) (now (space .exit)) ⌝ }
 {
-    sameness::prime_form(image, plan, out, space)
+    prime_forms::prime_form(image, plan, out, space)
 }
 
 // 1 for two plans that are the same under an alike list, 0 for two that are apart.
@@ -98,7 +99,7 @@ pub extern "C" fn gindrazoma_prime_form_alike(
 ) -> i32
     ensures { λ r. ⌜ FormedAlike (now (image .entry)) (now (alike .entry)) (now (plan .entry)) (now (out .entry)) (now (space .entry)) r (now (out .exit)) (now (space .exit)) ⌝ }
 {
-    sameness::prime_form_alike(image, alike, plan, out, space)
+    prime_forms::prime_form_alike(image, alike, plan, out, space)
 }
 
 // A log of moves replayed on a plan under an alike list: 1 for whole, 0 for part, else 2 plus the place.

@@ -48,7 +48,7 @@ pub fn job_report(image: &[u8], job: u8, line: &mut [u8]) -> usize
     let mut space = [0u8; 65536];
     let plan = [job];
     let norm = plans::plan_norm(image, &plan);
-    let answer = sameness::prime_form(image, &plan, &mut form, &mut space);
+    let answer = prime_forms::prime_form(image, &plan, &mut form, &mut space);
     let size = look_lines::result_in(answer) as usize;
     look_lines::job_line(job, look_lines::result_in(norm), &form[0..size], line)
 }

@@ -25,7 +25,8 @@ use Rattle.alike.proofs.AlikeBisimulations as bisimulations
 use Rattle.alike_list.specs.AlikeLists.{alike-pairs, alike-refusal}
 use Rattle.alike_list.specs.AlikeTables.{alike-table, listed-refusal}
 use Rattle.alike_list.proofs.ListRefusals.{not-whole, twelve, by-clash}
-use Rattle.sameness.proofs.NoListCalls.{compared-none, formed-none}
+use Rattle.sameness.proofs.NoListCalls.{compared-none}
+use Rattle.prime_forms.proofs.NoListForms.{formed-none}
 use Rattle.promises.specs.Promises as plain
 use Rattle.promises.specs.AlikeLists as promised
 use Rattle.promises.proofs.Promises as proved

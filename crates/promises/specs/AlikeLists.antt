@@ -15,7 +15,8 @@ use Rattle.refusal.specs.Refusals.{plan-refusal, plans-refusal, Accepted}
 use Rattle.alike.specs.Alike.{Pair, replace, replaced, FromTwice, FromAsTo, Alike-bisimulation, Any-alike-bisimulation}
 use Rattle.alike_list.specs.AlikeLists.{alike-pairs, alike-refusal}
 use Rattle.alike_list.specs.AlikeTables.{alike-table, listed-refusal}
-use Rattle.sameness.specs.SamenessCalls.{Compared, Formed, ComparedAlike, FormedAlike}
+use Rattle.sameness.specs.SamenessCalls.{Compared, ComparedAlike}
+use Rattle.prime_forms.specs.FormCalls.{Formed, FormedAlike}
 
 -- REFUSALS 12 AND 13
 -- 12 is given exactly if there are more than 32 pairs, or an unfinished one at the end

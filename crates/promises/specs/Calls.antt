@@ -17,7 +17,8 @@ use Rattle.moves.specs.Moves.{move-bytes}
 use Rattle.table.specs.CallRefusals.{one-plan}
 use Rattle.images.specs.ImageCalls.{Read, Written}
 use Rattle.plans.specs.PlanCalls.{Normed, Moved}
-use Rattle.sameness.specs.SamenessCalls.{Compared, Formed}
+use Rattle.sameness.specs.SamenessCalls.{Compared}
+use Rattle.prime_forms.specs.FormCalls.{Formed}
 use Rattle.promises.specs.Promises.{all-bytes}
 
 -- what reading an image wrote, written again, is the image byte for byte

@@ -1,17 +1,17 @@
--- WITHOUT A LIST NOTHING DIFFERS: the calls with an empty list answer as those without one. Assumes nothing.
+-- WITHOUT A LIST NOTHING DIFFERS: a comparison with an empty list answers as one without. Assumes nothing.
 use mathlib.Core.Path.{sym, subst}
 use mathlib.Core.List.{List, []}
 use mathlib.Core.Logic.{_↔_}
 use Prim.Native.Nat.{ℕ}
 use lib.IntN.{ℤ}
 use Rattle.bpa.specs.Plans.{Table}
-use Rattle.bpa.specs.Method.{same, prime-form}
-use Rattle.answer.specs.Answer.{one-if, GivesWithSpace, WritesWithSpace}
+use Rattle.bpa.specs.Method.{same}
+use Rattle.answer.specs.Answer.{one-if, GivesWithSpace}
 use Rattle.image.specs.Image.{table-in}
-use Rattle.table.specs.CallRefusals.{one-plan, two-plans}
-use Rattle.alike_list.specs.AlikeTables.{alike-table, one-plan-alike, two-plans-alike}
-use Rattle.replacing.proofs.NoList.{no-replacement, one-plan-none, two-plans-none}
-use Rattle.sameness.specs.SamenessCalls.{Compared, Formed, ComparedAlike, FormedAlike}
+use Rattle.table.specs.CallRefusals.{two-plans}
+use Rattle.alike_list.specs.AlikeTables.{alike-table, two-plans-alike}
+use Rattle.replacing.proofs.NoList.{no-replacement, two-plans-none}
+use Rattle.sameness.specs.SamenessCalls.{Compared, ComparedAlike}
 
 pub compared-none : (bs p q s : List ℕ) (r : ℤ) (s′ : List ℕ) → ComparedAlike bs [] p q s r s′ ↔ Compared bs p q s r s′
 compared-none bs p q s r s′ =
@@ -21,14 +21,4 @@ compared-none bs p q s r s′ =
           (subst (λ (u : Table). GivesWithSpace (two-plans-alike bs [] p q) (one-if (same u p q)) s r s′) t w)),
       (λ w. subst (λ (n : ℕ). GivesWithSpace n (one-if (same (alike-table bs []) p q)) s r s′) (sym f)
           (subst (λ (u : Table). GivesWithSpace (two-plans bs p q) (one-if (same u p q)) s r s′) (sym t) w)),
-    )
-
-pub formed-none : (bs p o s : List ℕ) (r : ℤ) (o′ s′ : List ℕ) → FormedAlike bs [] p o s r o′ s′ ↔ Formed bs p o s r o′ s′
-formed-none bs p o s r o′ s′ =
-    let t = no-replacement (table-in bs) in
-    let f = one-plan-none bs p in (
-      (λ w. subst (λ (n : ℕ). WritesWithSpace n (prime-form (table-in bs) p) o s r o′ s′) f
-          (subst (λ (u : Table). WritesWithSpace (one-plan-alike bs [] p) (prime-form u p) o s r o′ s′) t w)),
-      (λ w. subst (λ (n : ℕ). WritesWithSpace n (prime-form (alike-table bs []) p) o s r o′ s′) (sym f)
-          (subst (λ (u : Table). WritesWithSpace (one-plan bs p) (prime-form u p) o s r o′ s′) (sym t) w)),
     )

@@ -1,4 +1,4 @@
--- `sameness::form_in` meets its contract. Assumes nothing.
+-- `prime_forms::form_in` meets its contract. Assumes nothing.
 use mathlib.Core.Path.{_≡_, refl, _∙_}
 use mathlib.Core.List.{List}
 use Prim.Native.Nat.{ℕ, _≤_}
@@ -14,8 +14,8 @@ use Rattle.table.specs.Tables.{Loads}
 use Rattle.table.proofs.HeldTables.{Ready, plan-chain, plan-ready}
 use Rattle.workspace.proofs.UsablePart.{front-cleared}
 use Rattle.workspace.proofs.WithSpace.{space-chain, space-passed}
-use Rattle.sameness.proofs.form_in.Statement.{statement}
-use Rattle.sameness.proofs.form_in.Tie as tie
+use Rattle.prime_forms.proofs.form_in.Statement.{statement}
+use Rattle.prime_forms.proofs.form_in.Tie as tie
 
 -- once all checks are made
 module _ (c : tie.After-or-else2) where

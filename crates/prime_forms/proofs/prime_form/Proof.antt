@@ -1,10 +1,10 @@
--- `sameness::prime_form` meets its contract: it is the call with an empty list. Assumes nothing.
+-- `prime_forms::prime_form` meets its contract: it is the call with an empty list. Assumes nothing.
 use borrow.Author.Needs.{needs}
 use mir.Syntax.{w32}
 use mir.ValLaws.{toZ-ofZ}
-use Rattle.sameness.proofs.NoListCalls.{formed-none}
-use Rattle.sameness.proofs.prime_form.Statement.{statement}
-use Rattle.sameness.proofs.prime_form.Tie as tie
+use Rattle.prime_forms.proofs.NoListForms.{formed-none}
+use Rattle.prime_forms.proofs.prime_form.Statement.{statement}
+use Rattle.prime_forms.proofs.prime_form.Tie as tie
 
 returns : tie.Need-returns
 returns c =

@@ -1,10 +1,10 @@
--- `sameness::prime_form_alike` meets its contract. Assumes nothing.
+-- `prime_forms::prime_form_alike` meets its contract. Assumes nothing.
 use mathlib.Core.Path.{_∙_}
 use borrow.Author.Needs.{needs}
 use mir.Syntax.{w32}
 use mir.ValLaws.{toZ-ofZ}
-use Rattle.sameness.proofs.prime_form_alike.Statement.{statement}
-use Rattle.sameness.proofs.prime_form_alike.Tie as tie
+use Rattle.prime_forms.proofs.prime_form_alike.Statement.{statement}
+use Rattle.prime_forms.proofs.prime_form_alike.Tie as tie
 
 returns : tie.Need-returns
 returns c =

@@ -1,0 +1,2 @@
+-- Laws of the calls that write prime forms.
+pub mod NoListForms

@@ -1,0 +1,2 @@
+-- What the calls that write prime forms answer.
+pub mod FormCalls
