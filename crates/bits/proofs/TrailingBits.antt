@@ -23,7 +23,7 @@ pub bit-shifted : (n j k : ℕ) → bit (n / 2 ^ j) k ≡ bit n (j + k)
 unfolding bit
 bit-shifted n j k = ap (λ (m : ℕ). m % 2) (shr-shr n j k)
 
-pub bit-beyond : (n k : ℕ) → n < 2 ^ k → bit n k ≡ 0
+bit-beyond : (n k : ℕ) → n < 2 ^ k → bit n k ≡ 0
 unfolding bit
 bit-beyond n k h = ap (λ (m : ℕ). m % 2) (div-eq-of-lt h)
 

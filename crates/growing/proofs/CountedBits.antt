@@ -1,15 +1,15 @@
 -- A number has as many ones as a set of jobs has members, if its bits are the set. Assumes nothing.
-use mathlib.Core.Path.{_≡_, refl, sym, ap, _∙_}
+use mathlib.Core.Path.{_≡_, refl, sym, _∙_}
 use mathlib.Core.Bool.{Bool, true, false, cond, true≢false}
-use mathlib.Core.List.{List, [], _∷_}
+use mathlib.Core.List.{[], _∷_}
 use mathlib.Core.Logic.{_↔_}
-use Prim.Native.Nat.{ℕ, zero, suc, _+_, _*_, _/_, _%_, _^_, _<_}
+use Prim.Native.Nat.{ℕ, zero, suc, _/_, _^_, _<_}
 use native.Mathlib.Nat.{pow-suc}
 use native.Mathlib.Omega.{arith}
 use lib.Count.{ones, ones-step, ones-le}
 use lib.ListN.{length}
 use Rattle.bits.specs.Bits.{bit}
-use Rattle.bits.proofs.PlaceBits.{bit-small, bit-clear}
+use Rattle.bits.proofs.PlaceBits.{bit-clear}
 use Rattle.bits.proofs.TrailingBits.{bit-first, bit-next}
 use Rattle.growth.specs.Reached.{JobSet, has, members-from}
 

@@ -1,10 +1,10 @@
 -- The sets of jobs by bits are those of the definition: what rows of bits lead to is what a plan can reach, and the test is the test. Assumes a
 -- good list of rules.
-use mathlib.Core.Path.{_≡_, refl, sym, ap, subst, _∙_}
-use mathlib.Core.Bool.{Bool, true, false, cond}
-use mathlib.Core.List.{List, [], _∷_, List·Memᴰ}
+use mathlib.Core.Path.{_≡_, sym, ap, subst, _∙_}
+use mathlib.Core.Bool.{Bool, true, cond}
+use mathlib.Core.List.{List, List·Memᴰ}
 use mathlib.Core.Logic.{_↔_}
-use Prim.Native.Nat.{ℕ, suc, _+_, _*_, _≤_, _<_}
+use Prim.Native.Nat.{ℕ, _+_, _*_, _<_}
 use native.Mathlib.Nat.{lt-of-lt-of-le}
 use native.Mathlib.Omega.{arith}
 use lib.Count.{ones}
@@ -14,7 +14,7 @@ use Rattle.bpa.proofs.Basics.Cases.{same-test}
 use Rattle.rules.specs.Places.{rule-at, rule-count, table-of}
 use Rattle.rules.specs.Lists.{GoodList}
 use Rattle.rules.proofs.ListLaws.{rule-of, place-of-rule, table-closed}
-use Rattle.bits.specs.Bits.{bit, JobBits}
+use Rattle.bits.specs.Bits.{JobBits}
 use Rattle.growth.specs.Reached.{has, members, reached, all-but-last, fronts, grows-at, grows, growth}
 use Rattle.growth.proofs.JobSets.{member-exactly, one-exactly}
 use Rattle.growth.proofs.RuleRows.{InFront, fronts-exactly}
@@ -56,7 +56,7 @@ module _ (n : ℕ) (rs : List ℕ) (g : GoodList n rs) where
           let part : InPart (λ v. v) rs (rule-count rs) i j = (x, b, ap (λ (q : Rule). q .job) e, subst (λ (v : List ℕ). List·Memᴰ j v) (sym (ap (λ (q : Rule). q .after) e)) m) in
           leads-linked r (led-rule t a j w d h m) (next i j l (sets .rows-hold i (job-small i d) .holds j .1 part))
 
-      pub linked-exactly : (k : ℕ) → Linked rows from k ↔ (has (reached t p) k ≡ true)
+      linked-exactly : (k : ℕ) → Linked rows from k ↔ (has (reached t p) k ≡ true)
       linked-exactly k = (
         (λ l. reached-exactly t (table-closed n rs g) p o k .1 (linked-led l)),
         (λ h.
@@ -88,10 +88,10 @@ module _ (n : ℕ) (rs : List ℕ) (g : GoodList n rs) where
       found : JobBits r Reached
       found = jobs-as (linked-exactly p o from start) closed
 
-      pub counted : ones r ≡ length (members (reached t p))
+      counted : ones r ≡ length (members (reached t p))
       counted = ones-members (reached t p) 0 24 r (found .small) (found .holds)
 
-      pub grows-exactly : SomeBack rows heads r ↔ (grows t p ≡ true)
+      grows-exactly : SomeBack rows heads r ↔ (grows t p ≡ true)
       unfolding grows
       grows-exactly = (
         (λ s.

@@ -3,18 +3,17 @@
 use mathlib.Core.Path.{_≡_, refl, sym, ap, subst}
 use mathlib.Core.Bool.{Bool, true, false, cond}
 use mathlib.Core.List.{List, [], _∷_, List·Memᴰ, List·Memᴰ·not-nil, List·Memᴰ·cases-cons}
-use mathlib.Core.Logic.{_↔_, _⊎_, inl, inr, ⊎-elim}
+use mathlib.Core.Logic.{_↔_, _⊎_, ⊎-elim}
 use Prim.Native.Nat.{ℕ, _+_, _*_, _/_, _%_, _≤_}
 use native.Mathlib.Omega.{arith}
 use lib.ListN.{length}
-use Rattle.bpa.specs.Plans.{Rule, Table, over, HasRule}
+use Rattle.bpa.specs.Plans.{Rule, Table, over}
 use Rattle.bpa.specs.Norms.{Good}
-use Rattle.bpa.specs.Bisimilar.{Bisimilar}
 use Rattle.bpa.proofs.Basics.Cases.{by-test, never-both}
 use Rattle.bpa.proofs.Base.MethodDecides.{equivalent-bisimilar}
 use Rattle.bpa.proofs.Rounds.Approximants.{approx-refl}
 use Rattle.replay.proofs.ReplayMeaning.{run-over}
-use Rattle.growth.specs.Growth.{Becomes, Finite, Endless, ReachesJob, SomeComesRound, Bounded, Unbounded, JobCount, GrowthSays}
+use Rattle.growth.specs.Growth.{Finite, Endless, SomeComesRound, Bounded, Unbounded, JobCount, GrowthSays}
 use Rattle.growth.specs.Reached.{members, reached, grows, growth}
 use Rattle.growth.proofs.JobSets.{member-exactly, members-rise}
 use Rattle.growth.proofs.JobsReached.{reached-meaning}
@@ -50,7 +49,7 @@ by-digit false m n e =
 
 module _ (t : Table) (ns : List ℕ) (g : Good t ns) (p : List ℕ) (o : over t p ≡ true) where
   -- bounded length makes finitely many plans
-  pub bounded-finite : (n : ℕ) → Bounded t p n → Finite t p
+  bounded-finite : (n : ℕ) → Bounded t p n → Finite t p
   bounded-finite n f = (
     plans-within t n,
     λ q b.

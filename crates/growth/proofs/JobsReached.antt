@@ -5,11 +5,10 @@ use mathlib.Core.Bool.{true}
 use mathlib.Core.List.{List, [], _∷_, _++_, append-nil, List·Memᴰ, List·Memᴰ·head, List·Memᴰ·tail, List·Memᴰ·not-nil, List·Memᴰ·cases-cons}
 use mathlib.Core.List.{List·Memᴰ·append-cases}
 use mathlib.Core.Logic.{_↔_, ⊎-elim}
-use Prim.Native.Nat.{ℕ, _<_}
+use Prim.Native.Nat.{ℕ}
 use Rattle.bpa.specs.Plans.{Table, over, HasRule, Runs, empty-run, longer-run}
 use Rattle.bpa.specs.Norms.{Good}
 use Rattle.bpa.proofs.Basics.Plans.{over-head, over-tail, over-one}
-use Rattle.bpa.proofs.Basics.EachJob.{each-over}
 use Rattle.bpa.proofs.Norm.NormFewest.{sum-fewest}
 use Rattle.replay.proofs.RunSplits.{run-then, run-waiting}
 use Rattle.growth.specs.Growth.{Becomes, ReachesJob}

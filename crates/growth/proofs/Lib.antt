@@ -10,3 +10,4 @@ pub mod GrowthExact
 pub mod JobCounts
 pub mod SameGrowth
 pub mod RulesReordered
+pub mod AlikeGrowth

@@ -1,15 +1,14 @@
 -- Where the test finds growth, a job comes round with others behind it, plans become as long as one likes, and so no list of plans has them all.
 -- Assumes a good table.
-use mathlib.Core.Path.{_≡_, refl, sym, ap, subst}
+use mathlib.Core.Path.{_≡_, ap, subst}
 use mathlib.Core.Bool.{true}
 use mathlib.Core.List.{List, [], _∷_, _++_, List·Memᴰ, List·Memᴰ·not-nil, List·Memᴰ·cases-cons}
 use mathlib.Core.Logic.{⊎-elim}
-use Prim.Native.Nat.{ℕ, zero, suc, _+_, _≤_, _<_}
+use Prim.Native.Nat.{ℕ, zero, suc, _+_, _≤_}
 use native.Mathlib.Omega.{arith}
 use lib.ListN.{length, length-append}
 use Rattle.bpa.specs.Plans.{Rule, Table, over}
 use Rattle.bpa.specs.Norms.{sum-of, Good}
-use Rattle.bpa.specs.Bisimilar.{Bisimilar}
 use Rattle.bpa.proofs.Basics.Plans.{over-left, length-norm}
 use Rattle.bpa.proofs.Rounds.Equivalence.{bisimilar-equivalent, equivalent-norm}
 use Rattle.replay.proofs.ReplayMeaning.{run-over}

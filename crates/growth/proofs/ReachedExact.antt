@@ -1,6 +1,6 @@
 -- The jobs found by rounds are those that the rules lead to, step by step, from the jobs of a plan. Assumes that rules keep to the table.
-use mathlib.Core.Path.{_≡_, refl, sym, subst}
-use mathlib.Core.Bool.{Bool, true, false, _||_, true≢false}
+use mathlib.Core.Path.{_≡_, refl}
+use mathlib.Core.Bool.{Bool, true, _||_}
 use mathlib.Core.List.{List, [], _∷_, List·Memᴰ, List·Memᴰ·head, List·Memᴰ·tail}
 use mathlib.Core.Logic.{_↔_, _⊎_, inl, inr, ⊎-elim}
 use Prim.Native.Nat.{ℕ, zero, suc, _+_, _≤_, _<_}
@@ -31,7 +31,7 @@ module _ (t : Table) where
   leads-on (itself j) l = l
   leads-on {j = j} (by-rule i a k m w h n r) l = by-rule i a k j w h n (leads-on r l)
 
-  pub leads-rule : {i k : ℕ} (a j : ℕ) (w : List ℕ) → Leads t i k → HasRule t k a w → List·Memᴰ j w → Leads t i j
+  leads-rule : {i k : ℕ} (a j : ℕ) (w : List ℕ) → Leads t i k → HasRule t k a w → List·Memᴰ j w → Leads t i j
   leads-rule {k = k} a j w l h m = leads-on l (by-rule k a j j w h m (itself j))
 
   pub led-rule : {p : List ℕ} {k : ℕ} (a j : ℕ) (w : List ℕ) → Led t p k → HasRule t k a w → List·Memᴰ j w → Led t p j

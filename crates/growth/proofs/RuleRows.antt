@@ -13,7 +13,7 @@ use Rattle.growth.specs.Reached.{JobSet, has, has-job, comes-in, all-but
 use Rattle.growth.proofs.JobSets.{has-job-exactly}
 
 -- a job in the row of a rule of a member
-abbrev pub ComesIn : JobSet → List Rule → (job : ℕ) → Type 0
+abbrev ComesIn : JobSet → List Rule → (job : ℕ) → Type 0
 ComesIn s rs j = (r : Rule) × List·Memᴰ r rs × (has s (r .job) ≡ true) × List·Memᴰ j (r .after)
 
 pub comes-exactly : (s : JobSet) (rs : List Rule) (j : ℕ) → (comes-in s rs j ≡ true) ↔ ComesIn s rs j
@@ -82,7 +82,7 @@ fronts-exactly (r ∷ rs) j k = (
     own = all-but-last (r .after)
 
 -- where such a job stands in its row
-abbrev pub StandsBefore : (row : List ℕ) → (job : ℕ) → Type 0
+abbrev StandsBefore : (row : List ℕ) → (job : ℕ) → Type 0
 StandsBefore w k = (u : List ℕ) × (i : ℕ) × (v : List ℕ) × (w ≡ u ++ k ∷ i ∷ v)
 
 pub stands-before : (w : List ℕ) (k : ℕ) → List·Memᴰ k (all-but-last w) → StandsBefore w k

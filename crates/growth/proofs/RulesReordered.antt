@@ -2,8 +2,7 @@
 use mathlib.Core.Path.{_≡_, ap}
 use mathlib.Core.Bool.{Bool, true, cond}
 use mathlib.Core.List.{List}
-use mathlib.Core.Logic.{_↔_}
-use Prim.Native.Nat.{ℕ, _+_, _*_}
+use Prim.Native.Nat.{ℕ}
 use native.Mathlib.Omega.{arith}
 use lib.ListN.{length}
 use Rattle.bpa.specs.Plans.{Table, over}
@@ -11,7 +10,7 @@ use Rattle.bpa.specs.Norms.{Good}
 use Rattle.bpa.proofs.Basics.Cases.{same-test}
 use Rattle.first_run.specs.FirstRun.{SameRules}
 use Rattle.first_run.proofs.FirstRuns.{same-runs}
-use Rattle.growth.specs.Growth.{Becomes, ReachesJob, SomeComesRound, JobCount}
+use Rattle.growth.specs.Growth.{Becomes, ReachesJob, SomeComesRound}
 use Rattle.growth.specs.Reached.{members, reached, grows, growth}
 use Rattle.growth.proofs.GrowthExact.{endless-exactly, round-exactly, jobs-counted}
 use Rattle.growth.proofs.JobCounts.{count-single}

@@ -1,10 +1,8 @@
 -- Plans that are the same are both finite or both endless. Assumes a good table.
-use mathlib.Core.Path.{_≡_}
-use mathlib.Core.Bool.{true}
 use mathlib.Core.List.{List, [], _∷_}
 use mathlib.Core.Logic.{_↔_}
 use Prim.Native.Nat.{ℕ}
-use Rattle.bpa.specs.Plans.{Table, over, Runs, empty-run, longer-run}
+use Rattle.bpa.specs.Plans.{Table, Runs, empty-run, longer-run}
 use Rattle.bpa.specs.Norms.{Good}
 use Rattle.bpa.specs.Bisimilar.{Bisimulation, Bisimilar}
 use Rattle.bpa.proofs.Basics.Cases.{by-test}

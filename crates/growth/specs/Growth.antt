@@ -1,4 +1,4 @@
--- What a plan can become (regularity in 004): finitely many different plans, or not; and the jobs that it can reach. Assumes nothing: these are
+-- What a plan can become: finitely many different plans (a regular process in 004) or not, and the jobs that it can reach. Assumes nothing: these are
 -- definitions.
 use mathlib.Core.Path.{_≡_}
 use mathlib.Core.Bool.{Bool, true, _&&_}
@@ -29,7 +29,7 @@ Endless t p =
 abbrev pub ReachesJob : Table → (plan : List ℕ) → (job : ℕ) → Type 0
 ReachesJob t p j = (q : List ℕ) × Becomes t p q × List·Memᴰ j q
 
--- a job can come round to itself with further jobs behind it
+-- a job can come round to itself with further jobs behind it (a growing variable in 004)
 abbrev pub ComesRound : Table → (job : ℕ) → Type 0
 ComesRound t j = (k : ℕ) × (more : List ℕ) × Becomes t (j ∷ []) (j ∷ k ∷ more)
 

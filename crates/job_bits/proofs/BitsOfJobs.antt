@@ -6,7 +6,6 @@ use mathlib.Core.List.{List·Memᴰ·append-cases, Memᴰ·append-left, Memᴰ·
 use mathlib.Core.Logic.{_↔_, _⊎_, inl, inr, ⊎-elim}
 use Prim.Native.Nat.{ℕ, zero, suc, _+_, _-_, _^_, _≤_, _<_}
 use native.Mathlib.Decide.{ℕ-discrete}
-use native.Mathlib.Nat.{lt-of-lt-of-le}
 use native.Mathlib.Omega.{arith}
 use lib.Bits.{bitOr, or-lt}
 use lib.Dec.{ltb, lit<}
@@ -17,18 +16,18 @@ use Rattle.bpa.specs.Plans.{all-below}
 use Rattle.bpa.proofs.Basics.Cases.{and-left, and-right, and-both}
 use Rattle.bits.specs.Bits.{JobBits}
 use Rattle.bits.proofs.PlaceBits.{none-set, one-set, either-set}
-use Rattle.rules.specs.Places.{rule-at, rule-count}
+use Rattle.rules.specs.Places.{rule-at}
 use Rattle.growth.specs.Reached.{all-but-last}
-use Rattle.job_bits.specs.JobBits.{PlanBits, TwoSets, InPart, RuleSets}
+use Rattle.job_bits.specs.JobBits.{PlanBits, TwoSets, InPart}
 
 -- SETS OF JOBS
-pub no-jobs : JobBits 0 (λ k. ⊥)
+no-jobs : JobBits 0 (λ k. ⊥)
 no-jobs = record { small = lit< tt; holds = none-set }
 
-pub one-job : (j : ℕ) → j < 24 → JobBits (2 ^ j) (λ k. k ≡ j)
+one-job : (j : ℕ) → j < 24 → JobBits (2 ^ j) (λ k. k ≡ j)
 one-job j h = record { small = pow-lt h; holds = one-set j }
 
-pub jobs-joined : {a b : ℕ} {A B : ℕ → Type 0} → JobBits a A → JobBits b B → JobBits (bitOr a b) (λ k. A k ⊎ B k)
+jobs-joined : {a b : ℕ} {A B : ℕ → Type 0} → JobBits a A → JobBits b B → JobBits (bitOr a b) (λ k. A k ⊎ B k)
 jobs-joined {a} {b} f g = record { small = or-lt 24 a b (f .small) (g .small); holds = λ k. either-set a b k (f .holds k) (g .holds k) }
 
 pub jobs-as : {a : ℕ} {A B : ℕ → Type 0} → ((k : ℕ) → A k ↔ B k) → JobBits a A → JobBits a B
@@ -42,7 +41,7 @@ pub plan-none : (p : List ℕ) → PlanBits (take 0 p) 0
 plan-none p = jobs-as (λ k. ((λ f. absurd f), (λ m. absurd (List·Memᴰ·not-nil m)))) no-jobs
 
 -- with one job more behind
-pub behind : (p : List ℕ) (j k : ℕ) → (List·Memᴰ k p ⊎ (k ≡ j)) ↔ List·Memᴰ k (p ++ j ∷ [])
+behind : (p : List ℕ) (j k : ℕ) → (List·Memᴰ k p ⊎ (k ≡ j)) ↔ List·Memᴰ k (p ++ j ∷ [])
 behind p j k = (
   (λ s. ⊎-elim (λ m. Memᴰ·append-left (j ∷ []) m) (λ e. Memᴰ·append-right p (List·Memᴰ·head e)) s),
   (λ m. ⊎-elim inl (λ n. inr (List·Memᴰ·eq-of-singleton n)) (List·Memᴰ·append-cases p m)),

@@ -3,7 +3,6 @@ use mathlib.Core.Path.{_≡_}
 use mathlib.Core.List.{List, List·Memᴰ}
 use Prim.Native.Nat.{ℕ, _<_}
 use lib.ListN.{getD}
-use Rattle.bpa.specs.Plans.{Rule}
 use Rattle.rules.specs.Places.{rule-at}
 use Rattle.bits.specs.Bits.{JobBits}
 use Rattle.growth.specs.Reached.{all-but-last}

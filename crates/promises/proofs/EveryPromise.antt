@@ -142,6 +142,7 @@ every-promise = record {
   jobs-counted = plangrowth.jobs-counted;
   count-single = plangrowth.count-single;
   growth-reordered = plangrowth.growth-reordered;
+  alike-growth = plangrowth.alike-growth;
   growth-told = plangrowth.growth-told;
   growth-bounded = plangrowth.growth-bounded;
   growth-of-none = plangrowth.growth-of-none;

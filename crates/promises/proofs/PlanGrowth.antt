@@ -1,22 +1,22 @@
 -- The promises about what a plan can become, each with its proved term. Assumes nothing.
-use mathlib.Core.Path.{_≡_, refl, sym, ap, subst, _∙_}
+use mathlib.Core.Path.{_≡_, refl, sym, ap, subst}
 use mathlib.Core.Bool.{Bool, true, false, cond}
 use mathlib.Core.List.{List, [], _∷_, List·Memᴰ, List·Memᴰ·head, List·Memᴰ·not-nil}
-use mathlib.Core.Logic.{_↔_, _⊎_, inl, inr}
-use Prim.Native.Nat.{ℕ, suc, _+_, _*_, _/_, _%_, _≤_}
+use mathlib.Core.Logic.{inl, inr}
+use Prim.Native.Nat.{ℕ, _+_, _*_, _≤_}
 use native.Mathlib.Omega.{arith}
 use lib.IntN.{pos}
 use lib.ListN.{length}
-use Rattle.bpa.specs.Plans.{Rule, Table, over, HasRule, Runs, empty-run, longer-run}
+use Rattle.bpa.specs.Plans.{Rule, Table, over, HasRule}
 use Rattle.bpa.specs.Norms.{norms}
-use Rattle.bpa.proofs.Basics.Cases.{by-test, never-both}
-use Rattle.bpa.proofs.Basics.Counting.{count, count-le}
+use Rattle.bpa.proofs.Basics.Cases.{by-test}
+use Rattle.bpa.proofs.Basics.Counting.{count-le}
 use Rattle.rules.specs.Places.{table-of}
 use Rattle.rules.specs.Lists.{GoodList}
 use Rattle.rules.proofs.ListLaws.{good-rule, place-of-rule}
 use Rattle.answer.proofs.Results.{result-is}
 use Rattle.answer.proofs.RefusalChains.{neither}
-use Rattle.refusal.specs.Refusals.{plan-refusal, Accepted}
+use Rattle.refusal.specs.Refusals.{plan-refusal}
 use Rattle.image.specs.Image.{image-refusal, image-jobs, image-places, table-in}
 use Rattle.image.proofs.ImageList.{image-good-list}
 use Rattle.table.specs.CallRefusals.{one-plan}
@@ -31,6 +31,7 @@ use Rattle.growth.proofs.GrowthExact as exact
 use Rattle.growth.proofs.JobCounts as counts
 use Rattle.growth.proofs.SameGrowth as same
 use Rattle.growth.proofs.RulesReordered as reordered
+use Rattle.growth.proofs.AlikeGrowth.{growth-alike}
 use Rattle.plan_growth.specs.GrowthCalls.{Grown}
 use Rattle.promises.specs.PlanGrowth as promised
 use Rattle.promises.proofs.AcceptedCalls.{AcceptedBoth, accepted-both}
@@ -87,6 +88,10 @@ pub growth-reordered : promised.Growth-reordered
 unfolding promised.Growth-reordered over
 growth-reordered t u p k m e s o =
     reordered.growth-same t u (norms t) (norms u) (k .good) (m .good) s p o (subst (λ (n : ℕ). over (record { jobs = n; rules = u .rules }) p ≡ true) e o)
+
+pub alike-growth : promised.Alike-growth
+unfolding promised.Alike-growth
+alike-growth = growth-alike
 
 -- OF THE CALL
 module _ (bs p : List ℕ) (n : ℕ) (w : Grown bs p (pos n)) where

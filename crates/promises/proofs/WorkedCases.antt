@@ -50,7 +50,7 @@ use Rattle.logs.specs.LogCalls.{plan-and-log, replayed}
 use Rattle.deterministic.specs.Deterministic.{is-choice, choice-with, choice-among, no-choice}
 use Rattle.deterministic.specs.CompleteRuns.{SameRuns, by-each, runs-within, each-rest, ends-within, equal-lists, same-runs-within}
 use Rattle.deterministic.proofs.RunsListed.{same-runs-listed}
-use Rattle.growth.specs.Growth.{Finite, Endless, JobCount, GrowthSays}
+use Rattle.growth.specs.Growth.{JobCount, GrowthSays}
 use Rattle.growth.specs.Reached.{members-from, set-from, has-job, comes-in, widened, widened-by, reached, all-but-last, fronts, grows-at, one-of, grows, growth}
 use Rattle.growth.proofs.GrowthExact.{growth-says}
 use Rattle.promises.specs.WorkedCases.{Worked, image-of, read-back, listed, HasNorms, Means, plan-passes, pair-passes, has-form}

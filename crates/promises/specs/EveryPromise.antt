@@ -155,6 +155,7 @@ pub record EveryPromise : Type 1 where
   pub jobs-counted : plangrowth.Jobs-counted
   pub count-single : plangrowth.Count-single
   pub growth-reordered : plangrowth.Growth-reordered
+  pub alike-growth : plangrowth.Alike-growth
   pub growth-told : plangrowth.Growth-told
   pub growth-bounded : plangrowth.Growth-bounded
   pub growth-of-none : plangrowth.Growth-of-none

@@ -12,6 +12,7 @@ use Rattle.bpa.specs.Bisimilar.{Bisimilar}
 use Rattle.refusal.specs.Refusals.{Accepted}
 use Rattle.image.specs.Image.{table-in}
 use Rattle.first_run.specs.FirstRun.{SameRules}
+use Rattle.alike.specs.Alike.{Pair, replaced}
 use Rattle.growth.specs.Growth.{Finite, Endless, ReachesJob, SomeComesRound, Bounded, Unbounded, JobCount, GrowthSays}
 use Rattle.growth.specs.Reached.{has, members, reached, grows, growth}
 use Rattle.plan_growth.specs.GrowthCalls.{Grown}
@@ -60,6 +61,10 @@ unfoldable pub Growth-reordered : Type 0
 Growth-reordered =
     (t u : Table) (p : List ℕ) → Accepted t → Accepted u → t .jobs ≡ u .jobs → SameRules t u → over t p ≡ true →
     growth t p ≡ growth u p
+
+-- and no alike list would change it
+unfoldable pub Alike-growth : Type 0
+Alike-growth = (ps : List Pair) (t : Table) (p : List ℕ) → growth (replaced ps t) p ≡ growth t p
 
 -- OF THE CALL. The number is odd exactly if the plan is endless and even exactly if it is finite, and half of it is the number of jobs that the plan can
 -- reach
