@@ -226,10 +226,12 @@ int32_t gindrazoma_deterministic(const uint8_t *image, size_t image_len, const u
  * none, lead to. It is endless if it can become infinitely many plans of which no two are the same, so that there is no
  * bound on their number, and finite otherwise.
  *
- * It is endless exactly if some job that it reaches can come round to itself with further jobs behind it: a rule of that
- * job has, before the last job of its row, one that is this job or reaches it. A job that comes round at the last place
- * of rows only leaves nothing behind it, and the plan stays finite. The moves of the rules do not matter, nor their
- * order, nor how often one is written. Every job of an accepted table can finish, so each job of a plan has its turn.
+ * It is endless exactly if some job that it reaches can come round to itself with further jobs behind it; that is, if
+ * some job that it reaches has a rule in whose row a job before the last one is this job or reaches it. A job that comes
+ * round at the last place of rows only leaves nothing behind it. A finite plan never becomes one of more jobs than its
+ * own and three for each job that it reaches. Plans that are the same are both endless or both finite, but may reach
+ * different numbers of jobs. The moves of the rules do not matter, nor their order, nor how often one is written. Every
+ * job of an accepted table can finish, so each job of a plan has its turn.
  *
  * Answer: twice the number of different jobs that stand in the plan or in any plan that it can become, and 1 more if it
  * is endless: 0 (the empty plan, which is finite) to 49. No area is written to.

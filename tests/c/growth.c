@@ -123,7 +123,16 @@ static size_t longest_needed(const struct table *t, size_t n)
     return n + 2 * m * (t->jobs - 1) + 1;
 }
 
-/* The answer, or -1 if there are too many plans to tell. */
+static size_t longest_met(void)
+{
+    size_t longest = 0;
+    for (size_t i = 0; i < met_count; i++)
+        if (jobs_in(met[i]) > longest)
+            longest = jobs_in(met[i]);
+    return longest;
+}
+
+/* The answer, or -1 if there are too many plans to tell. A finite plan has at most three jobs more for each job that it reaches. */
 static int32_t by_plans(const struct table *t, const uint8_t *plan, size_t n)
 {
     const size_t longest = longest_needed(t, n);
@@ -148,6 +157,7 @@ static int32_t by_plans(const struct table *t, const uint8_t *plan, size_t n)
     }
     for (int j = 0; j < 7; j++)
         jobs += stands[j];
+    CHECK(!room || endless || longest_met() <= n + 3 * (size_t)jobs);
     return room ? 2 * jobs + endless : -1;
 }
 

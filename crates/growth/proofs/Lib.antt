@@ -6,6 +6,7 @@ pub mod JobsReached
 pub mod LongPlans
 pub mod BoundedPlans
 pub mod PlansListed
+pub mod ManyPlans
 pub mod GrowthExact
 pub mod JobCounts
 pub mod SameGrowth

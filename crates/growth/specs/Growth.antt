@@ -25,6 +25,16 @@ Endless t p =
     (plans : List (List ℕ)) →
     (q : List ℕ) × Becomes t p q × ((r : List ℕ) → List·Memᴰ r plans → Bisimilar t q r → ⊥)
 
+-- no two plans of a list are bisimilar
+abbrev pub AllApart : Table → (plans : List (List ℕ)) → Type 0
+AllApart t [] = Unit {0}
+AllApart t (q ∷ qs) = ((r : List ℕ) → List·Memᴰ r qs → Bisimilar t q r → ⊥) × AllApart t qs
+
+-- so many plans that a plan can become, of which no two are
+abbrev pub ManyApart : Table → (plan : List ℕ) → (count : ℕ) → Type 0
+ManyApart t p n =
+    (plans : List (List ℕ)) × (length plans ≡ n) × ((q : List ℕ) → List·Memᴰ q plans → Becomes t p q) × AllApart t plans
+
 -- A JOB THAT A PLAN CAN REACH: it stands in the plan or in a plan that it can become
 abbrev pub ReachesJob : Table → (plan : List ℕ) → (job : ℕ) → Type 0
 ReachesJob t p j = (q : List ℕ) × Becomes t p q × List·Memᴰ j q

@@ -137,6 +137,7 @@ every-promise = record {
   round-decides = plangrowth.round-decides;
   growth-decides = plangrowth.growth-decides;
   endless-long = plangrowth.endless-long;
+  endless-many = plangrowth.endless-many;
   same-growth = plangrowth.same-growth;
   reached-exactly = plangrowth.reached-exactly;
   jobs-counted = plangrowth.jobs-counted;

@@ -28,6 +28,7 @@ use Rattle.growth.proofs.ReachedExact.{reached-length, reached-led}
 use Rattle.growth.proofs.JobsReached.{reached-meaning}
 use Rattle.growth.proofs.BoundedPlans.{bounded}
 use Rattle.growth.proofs.GrowthExact as exact
+use Rattle.growth.proofs.ManyPlans.{many-apart}
 use Rattle.growth.proofs.JobCounts as counts
 use Rattle.growth.proofs.SameGrowth as same
 use Rattle.growth.proofs.RulesReordered as reordered
@@ -66,6 +67,10 @@ round-decides t p k o =
 pub endless-long : promised.Endless-long
 unfolding promised.Endless-long
 endless-long t p k o = let long = exact.unbounded-exactly t (norms t) (k .good) p o in (long .1, long .0)
+
+pub endless-many : promised.Endless-many
+unfolding promised.Endless-many
+endless-many = many-apart
 
 pub same-growth : promised.Same-growth
 unfolding promised.Same-growth

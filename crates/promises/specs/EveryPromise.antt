@@ -150,6 +150,7 @@ pub record EveryPromise : Type 1 where
   pub round-decides : plangrowth.Round-decides
   pub growth-decides : plangrowth.Growth-decides
   pub endless-long : plangrowth.Endless-long
+  pub endless-many : plangrowth.Endless-many
   pub same-growth : plangrowth.Same-growth
   pub reached-exactly : plangrowth.Reached-exactly
   pub jobs-counted : plangrowth.Jobs-counted

@@ -13,7 +13,7 @@ use Rattle.refusal.specs.Refusals.{Accepted}
 use Rattle.image.specs.Image.{table-in}
 use Rattle.first_run.specs.FirstRun.{SameRules}
 use Rattle.alike.specs.Alike.{Pair, replaced}
-use Rattle.growth.specs.Growth.{Finite, Endless, ReachesJob, SomeComesRound, Bounded, Unbounded, JobCount, GrowthSays}
+use Rattle.growth.specs.Growth.{Finite, Endless, ManyApart, ReachesJob, SomeComesRound, Bounded, Unbounded, JobCount, GrowthSays}
 use Rattle.growth.specs.Reached.{has, members, reached, grows, growth}
 use Rattle.plan_growth.specs.GrowthCalls.{Grown}
 
@@ -38,6 +38,10 @@ Growth-decides =
 -- an endless plan can become as long as one likes, and no other can
 unfoldable pub Endless-long : Type 0
 Endless-long = (t : Table) (p : List ℕ) → Accepted t → over t p ≡ true → Endless t p ↔ Unbounded t p
+
+-- and as many plans as one likes of which no two are the same
+unfoldable pub Endless-many : Type 0
+Endless-many = (t : Table) (p : List ℕ) → Endless t p → (n : ℕ) → ManyApart t p n
 
 -- plans that are the same are both endless or both finite
 unfoldable pub Same-growth : Type 0

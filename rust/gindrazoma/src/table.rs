@@ -179,8 +179,9 @@ impl Table {
 
     /// Whether a plan ever grows, and how many different jobs stand in it or in any plan that it can become.
     ///
-    /// It is endless exactly if some job that it reaches can come round to itself with further jobs behind it: a rule of that job has,
-    /// before the last job of its row, one that is this job or reaches it. The moves of the rules do not matter, nor their order.
+    /// It is endless exactly if some job that it reaches can come round to itself with further jobs behind it; that is, if some job that
+    /// it reaches has a rule in whose row a job before the last one is this job or reaches it. A finite plan never becomes one of more
+    /// jobs than its own and three for each job that it reaches. The moves of the rules do not matter, nor their order.
     ///
     /// ```
     /// use gindrazoma::{Growth, Rule, Table};
