@@ -71,15 +71,11 @@ pub either-set : (a b k : ℕ) {A B : Type 0} → (bit a k ≡ 1) ↔ A → (bit
 either-set a b k f g = (
   (λ e.
       by-test (eqb (bit a k) 1) (λ y. inl (f .0 (eqb-true (bit a k) 1 y)))
-      (λ n. inr (g .0 (other (bit a k) (bit b k) (bit-small a k) (eqb-false (bit a k) 1 n) (sym (bit-or a b k) ∙ e))))),
+      (λ n. inr (g .0 (omega (arith, e, bit-or a b k, bit-clear a k (eqb-false (bit a k) 1 n)))))),
   (λ s.
       bit-or a b k ∙ ⊎-elim (λ x. left (bit a k) (bit b k) (f .1 x) (bit-small b k)) (λ x. right (bit a k) (bit b k) (bit-small a k) (g .1 x)) s),
 )
   where
-    other : (x y : ℕ) → x < 2 → (x ≡ 1 → ⊥) → max x y ≡ 1 → y ≡ 1
-    other x y small f e =
-        by-test (ltb 0 x) (λ z. absurd (f (omega (arith, ltb-true 0 x z)))) (λ z. omega (arith, ltb-false 0 x z))
-
     left : (x y : ℕ) → x ≡ 1 → y < 2 → max x y ≡ 1
     left x y e h = omega arith
 

@@ -39,6 +39,10 @@ clear-below (suc d) n k h = go (n % 2) refl k h (λ i. clear-below d (n / 2) i)
     go zero e (suc k) h f = bit-next n k ∙ f k (omega arith)
     go (suc r) e k h f = absurd (omega arith)
 
+-- half of a number below a power of two is below the power before it
+pub half-small : (d n : ℕ) → n < 2 ^ suc d → n / 2 < 2 ^ d
+half-small d n h = div-lt-iff-lt-mul (zero-lt-suc 1) .1 (rw (pow-suc 2 d) at h)
+
 -- the lowest bit that is set
 pub set-above : (d n : ℕ) → 0 < n → n < 2 ^ d → bit n (trailingZeros d n) ≡ 1
 unfolding trailingZeros
@@ -46,11 +50,8 @@ set-above zero n h l = absurd (none n h l)
   where
     none : (n : ℕ) → 0 < n → n < 1 → ⊥
     none n h l = omega arith
-set-above (suc d) n h l = go (n % 2) refl (λ p. set-above d (n / 2) p (half d n l))
+set-above (suc d) n h l = go (n % 2) refl (λ p. set-above d (n / 2) p (half-small d n l))
   where
-    half : (d n : ℕ) → n < 2 ^ suc d → n / 2 < 2 ^ d
-    half d n h = div-lt-iff-lt-mul (zero-lt-suc 1) .1 (rw (pow-suc 2 d) at h)
-
     go : (r : ℕ) → n % 2 ≡ r → (0 < n / 2 → bit (n / 2) (trailingZeros d (n / 2)) ≡ 1) → bit n (under r (trailingZeros d (n / 2))) ≡ 1
     go zero e f = bit-next n (trailingZeros d (n / 2)) ∙ f (omega arith)
     go (suc r) e f = bit-first n ∙ omega (arith, e)

@@ -4,17 +4,13 @@ use mathlib.Core.Bool.{Bool, true, false, cond, true≢false}
 use mathlib.Core.List.{[], _∷_}
 use mathlib.Core.Logic.{_↔_}
 use Prim.Native.Nat.{ℕ, zero, suc, _/_, _^_, _<_}
-use native.Mathlib.Nat.{pow-suc}
 use native.Mathlib.Omega.{arith}
 use lib.Count.{ones, ones-step, ones-le}
 use lib.ListN.{length}
 use Rattle.bits.specs.Bits.{bit}
 use Rattle.bits.proofs.PlaceBits.{bit-clear}
-use Rattle.bits.proofs.TrailingBits.{bit-first, bit-next}
+use Rattle.bits.proofs.TrailingBits.{bit-first, bit-next, half-small}
 use Rattle.growth.specs.Reached.{JobSet, has, members-from}
-
-half-small : (n w : ℕ) → w < 2 ^ suc n → w / 2 < 2 ^ n
-half-small n w h = omega (arith, h, pow-suc 2 n)
 
 -- a number without bits has no ones
 no-ones : (n w : ℕ) → w < 2 ^ n → ((k : ℕ) → bit w k ≡ 0) → ones w ≡ 0

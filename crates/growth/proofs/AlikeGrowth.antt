@@ -6,8 +6,8 @@ use Prim.Native.Nat.{ℕ, zero, suc, _+_, _*_}
 use lib.Dec.{eqb}
 use lib.ListN.{length}
 use Rattle.bpa.specs.Plans.{Rule, Table}
-use Rattle.alike.specs.Alike.{Pair, replaced-rule, replaced}
-use Rattle.growth.specs.Reached.{JobSet, has, members, set-from, set-of, has-job, comes-in, widened, widened-by, reached, all-but-last, fronts, grows-at, one-of, grows, growth}
+use Rattle.alike.specs.Alike.{Pair, replaced-rule, replaced, stands-in}
+use Rattle.growth.specs.Reached.{JobSet, has, members, set-from, set-of, comes-in, widened, widened-by, reached, all-but-last, fronts, grows-at, one-of, grows, growth}
 
 -- sets made by tests that agree
 same-set : (f g : ℕ → Bool) → ((j : ℕ) → f j ≡ g j) → (n j : ℕ) → set-from f n j ≡ set-from g n j
@@ -27,7 +27,7 @@ module _ (ps : List Pair) where
   same-coming : (s : JobSet) (rs : List Rule) (j : ℕ) → comes-in s (by-list rs) j ≡ comes-in s rs j
   unfolding comes-in replaced-rule
   same-coming s [] j = refl
-  same-coming s (r ∷ rs) j = ap (λ (b : Bool). (has s (r .job) && has-job (r .after) j) || b) (same-coming s rs j)
+  same-coming s (r ∷ rs) j = ap (λ (b : Bool). (has s (r .job) && stands-in (r .after) j) || b) (same-coming s rs j)
 
   same-fronts : (rs : List Rule) (j : ℕ) → fronts (by-list rs) j ≡ fronts rs j
   unfolding fronts replaced-rule
@@ -48,7 +48,7 @@ module _ (ps : List Pair) where
 
     same-reached : (p : List ℕ) → reached (replaced ps t) p ≡ reached t p
     unfolding reached replaced
-    same-reached p = same-rounds (t .jobs) (set-of (has-job p) (t .jobs))
+    same-reached p = same-rounds (t .jobs) (set-of (stands-in p) (t .jobs))
 
     same-at : (j : ℕ) → grows-at (replaced ps t) j ≡ grows-at t j
     unfolding grows-at replaced

@@ -1,10 +1,10 @@
 -- The test decides whether a plan is endless or finite, a job that comes round with others behind it makes it endless and nothing else does, and the
 -- jobs found are counted. Assumes a good table.
-use mathlib.Core.Path.{_≡_, refl, sym, ap, subst}
+use mathlib.Core.Path.{_≡_, refl, sym, subst}
 use mathlib.Core.Bool.{Bool, true, false, cond}
-use mathlib.Core.List.{List, [], _∷_, List·Memᴰ, List·Memᴰ·not-nil, List·Memᴰ·cases-cons}
-use mathlib.Core.Logic.{_↔_, _⊎_, ⊎-elim}
-use Prim.Native.Nat.{ℕ, _+_, _*_, _/_, _%_, _≤_}
+use mathlib.Core.List.{List}
+use mathlib.Core.Logic.{_↔_}
+use Prim.Native.Nat.{ℕ, _+_, _*_, _/_, _%_}
 use native.Mathlib.Omega.{arith}
 use lib.ListN.{length}
 use Rattle.bpa.specs.Plans.{Rule, Table, over}
@@ -15,6 +15,7 @@ use Rattle.bpa.proofs.Rounds.Approximants.{approx-refl}
 use Rattle.replay.proofs.ReplayMeaning.{run-over}
 use Rattle.growth.specs.Growth.{Finite, Endless, SomeComesRound, Bounded, Unbounded, JobCount, GrowthSays}
 use Rattle.growth.specs.Reached.{members, reached, grows, growth}
+use Rattle.growth.proofs.Totals.{total, within-total}
 use Rattle.growth.proofs.JobSets.{member-exactly, members-rise}
 use Rattle.growth.proofs.JobsReached.{reached-meaning}
 use Rattle.growth.proofs.LongPlans.{grows-round, round-unbounded, unbounded-endless}
@@ -29,16 +30,8 @@ not-both t p (plans, listed) endless =
     none r m s
 
 -- the jobs of all rows together are a bound for those of each
-total : List Rule → ℕ
-total [] = 0
-total (r ∷ rs) = length (r .after) + total rs
-
-row-within : (r : Rule) (rs : List Rule) → List·Memᴰ r rs → length (r .after) ≤ total rs
-unfolding total
-row-within r [] m = absurd (List·Memᴰ·not-nil m)
-row-within r (s ∷ rs) m =
-    ⊎-elim (λ (e : r ≡ s). omega (arith, ap (λ (x : Rule). length (x .after)) e)) (λ n. omega (arith, row-within r rs n))
-    (List·Memᴰ·cases-cons m)
+abbrev row-length : Rule → ℕ
+row-length r = length (r .after)
 
 -- a number by its half and its last binary digit
 pub by-digit : (b : Bool) (m n : ℕ) → n ≡ 2 * m + cond b 1 0 → ((n % 2 ≡ 1) ↔ (b ≡ true)) × ((n % 2 ≡ 0) ↔ (b ≡ false)) × (n / 2 ≡ m)
@@ -62,8 +55,8 @@ module _ (t : Table) (ns : List ℕ) (g : Good t ns) (p : List ℕ) (o : over t 
 
   steady-finite : grows t p ≡ false → Finite t p
   steady-finite h =
-      bounded-finite (total (t .rules) * length (members (reached t p)) + length p)
-      (bounded t ns g (total (t .rules)) (λ j a w m. omega (arith, row-within (record { job = j; move = a; after = w }) (t .rules) m)) p o h)
+      bounded-finite (total row-length (t .rules) * length (members (reached t p)) + length p)
+      (bounded t ns g (total row-length (t .rules)) (λ j a w m. omega (arith, within-total row-length (record { job = j; move = a; after = w }) (t .rules) m)) p o h)
 
   -- THE TEST DECIDES
   pub endless-exactly : (grows t p ≡ true) ↔ Endless t p

@@ -1,7 +1,8 @@
 -- Sets of jobs: what is in a set made by a test, and the members by their numbers. Assumes nothing.
 use mathlib.Core.Path.{_≡_, refl, sym, ap, subst, _∙_}
 use mathlib.Core.Bool.{Bool, true, false, cond, true≢false}
-use mathlib.Core.List.{List, [], _∷_, List·Memᴰ, List·Memᴰ·head, List·Memᴰ·tail, List·Memᴰ·not-nil, List·Memᴰ·cases-cons}
+use mathlib.Core.List.{List, [], _∷_, _++_, List·Memᴰ, List·Memᴰ·head, List·Memᴰ·tail, List·Memᴰ·not-nil, List·Memᴰ·cases-cons}
+use mathlib.Core.List.{List·Memᴰ·eq-of-singleton, List·Memᴰ·append-cases, Memᴰ·append-left, Memᴰ·append-right}
 use mathlib.Core.Logic.{_↔_, _⊎_, inl, inr, ⊎-elim}
 use Prim.Native.Nat.{ℕ, zero, suc, _+_, _≤_, _<_}
 use native.Mathlib.Omega.{arith}
@@ -10,8 +11,9 @@ use lib.ListN.{length}
 use borrow.Author.Tests.{ltb-true, ltb-false, lt-ltb, eqb-true, eq-eqb}
 use Rattle.bpa.proofs.Basics.Cases.{by-test, or-cases, or-left, or-right, and-both, never-both}
 use Rattle.bpa.proofs.Basics.Counting.{count, count-le, count-more}
+use Rattle.alike.specs.Alike.{stands-in}
 use Rattle.growth.specs.Growth.{rises}
-use Rattle.growth.specs.Reached.{JobSet, has, members-from, members, set-from, set-of, has-job, one-of}
+use Rattle.growth.specs.Reached.{JobSet, has, members-from, members, set-from, set-of, one-of}
 
 -- A SET MADE BY A TEST
 module _ (f : ℕ → Bool) where
@@ -46,20 +48,22 @@ module _ (f : ℕ → Bool) where
       at : k < n → has (set-of f n) k ≡ f k
       at h = set-at n 0 k h ∙ ap f (omega arith)
 
+-- A LIST whose front stands under a test
+module _ (k : ℕ) (u v : List ℕ) where
+  pub cond-cases : (b : Bool) → List·Memᴰ k (cond b (u ++ v) v) → ((b ≡ true) × List·Memᴰ k u) ⊎ List·Memᴰ k v
+  cond-cases true m = ⊎-elim (λ n. inl (refl, n)) inr (List·Memᴰ·append-cases u m)
+  cond-cases false m = inr m
+
+  pub cond-left : (b : Bool) → b ≡ true → List·Memᴰ k u → List·Memᴰ k (cond b (u ++ v) v)
+  cond-left true e m = Memᴰ·append-left v m
+  cond-left false e m = absurd (true≢false (sym e))
+
+  pub cond-right : (b : Bool) → List·Memᴰ k v → List·Memᴰ k (cond b (u ++ v) v)
+  cond-right true m = Memᴰ·append-right u m
+  cond-right false m = m
+
 -- THE MEMBERS of a set
 module _ (x : ℕ) where
-  cond-member : (b : Bool) (j : ℕ) (l : List ℕ) → List·Memᴰ x (cond b (j ∷ l) l) → ((b ≡ true) × (x ≡ j)) ⊎ List·Memᴰ x l
-  cond-member true j l m = ⊎-elim (λ e. inl (refl, e)) inr (List·Memᴰ·cases-cons m)
-  cond-member false j l m = inr m
-
-  cond-first : (b : Bool) (j : ℕ) (l : List ℕ) → b ≡ true → x ≡ j → List·Memᴰ x (cond b (j ∷ l) l)
-  cond-first true j l e h = List·Memᴰ·head h
-  cond-first false j l e h = absurd (true≢false (sym e))
-
-  cond-later : (b : Bool) (j : ℕ) (l : List ℕ) → List·Memᴰ x l → List·Memᴰ x (cond b (j ∷ l) l)
-  cond-later true j l m = List·Memᴰ·tail m
-  cond-later false j l m = m
-
   -- a member stands so far behind the first job of the set
   abbrev At : (j : ℕ) → JobSet → Type 0
   At j s = (i : ℕ) × (x ≡ j + i) × (has s i ≡ true)
@@ -68,15 +72,15 @@ module _ (x : ℕ) where
   unfolding members-from
   member-at j [] m = absurd (List·Memᴰ·not-nil m)
   member-at j (b ∷ s) m =
-      ⊎-elim (λ (w : (b ≡ true) × (x ≡ j)). (0, omega (arith, w .1), w .0))
+      ⊎-elim (λ (w : (b ≡ true) × List·Memᴰ x (j ∷ [])). (0, omega (arith, List·Memᴰ·eq-of-singleton (w .1)), w .0))
       (λ n. let (i, e, h) = member-at (suc j) s n in (suc i, omega (arith, e), h))
-      (cond-member b j (members-from (suc j) s) m)
+      (cond-cases x (j ∷ []) (members-from (suc j) s) b m)
 
   at-member : (j : ℕ) (s : JobSet) (i : ℕ) → x ≡ j + i → has s i ≡ true → List·Memᴰ x (members-from j s)
   unfolding members-from
   at-member j [] i e h = absurd (true≢false (sym h))
-  at-member j (b ∷ s) zero e h = cond-first b j (members-from (suc j) s) h (omega (arith, e))
-  at-member j (b ∷ s) (suc i) e h = cond-later b j (members-from (suc j) s) (at-member (suc j) s i (omega (arith, e)) h)
+  at-member j (b ∷ s) zero e h = cond-left x (j ∷ []) (members-from (suc j) s) b h (List·Memᴰ·head (omega (arith, e)))
+  at-member j (b ∷ s) (suc i) e h = cond-right x (j ∷ []) (members-from (suc j) s) b (at-member (suc j) s i (omega (arith, e)) h)
 
   pub member-exactly : (s : JobSet) → List·Memᴰ x (members s) ↔ (has s x ≡ true)
   member-exactly s = (
@@ -129,16 +133,16 @@ all-pass f n h i l =
     (λ e. absurd (omega (arith, h, count-more f (λ j. true) n (λ j k g. refl) i l e refl, count-le (λ j. true) n)))
 
 -- TESTS OVER LISTS
-pub has-job-exactly : (p : List ℕ) (j : ℕ) → (has-job p j ≡ true) ↔ List·Memᴰ j p
-unfolding has-job
-has-job-exactly [] j = ((λ e. absurd (true≢false (sym e))), (λ m. absurd (List·Memᴰ·not-nil m)))
-has-job-exactly (i ∷ is) j = (
+pub stands-member : (p : List ℕ) (j : ℕ) → (stands-in p j ≡ true) ↔ List·Memᴰ j p
+unfolding stands-in
+stands-member [] j = ((λ e. absurd (true≢false (sym e))), (λ m. absurd (List·Memᴰ·not-nil m)))
+stands-member (i ∷ is) j = (
   (λ e.
-      ⊎-elim (λ h. List·Memᴰ·head (sym (eqb-true i j h))) (λ h. List·Memᴰ·tail (has-job-exactly is j .0 h))
-      (or-cases (eqb i j) (has-job is j) e)),
+      ⊎-elim (λ h. List·Memᴰ·head (sym (eqb-true i j h))) (λ h. List·Memᴰ·tail (stands-member is j .0 h))
+      (or-cases (eqb i j) (stands-in is j) e)),
   (λ m.
-      ⊎-elim (λ (e : j ≡ i). or-left (eqb i j) (has-job is j) (eq-eqb i j (sym e)))
-      (λ n. or-right (eqb i j) (has-job is j) (has-job-exactly is j .1 n)) (List·Memᴰ·cases-cons m)),
+      ⊎-elim (λ (e : j ≡ i). or-left (eqb i j) (stands-in is j) (eq-eqb i j (sym e)))
+      (λ n. or-right (eqb i j) (stands-in is j) (stands-member is j .1 n)) (List·Memᴰ·cases-cons m)),
 )
 
 pub one-exactly : (f : ℕ → Bool) (js : List ℕ) → (one-of f js ≡ true) ↔ ((j : ℕ) × List·Memᴰ j js × (f j ≡ true))

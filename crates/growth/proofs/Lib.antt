@@ -1,4 +1,5 @@
 -- Laws of what a plan can become.
+pub mod Totals
 pub mod JobSets
 pub mod RuleRows
 pub mod ReachedExact

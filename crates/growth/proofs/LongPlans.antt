@@ -1,9 +1,8 @@
 -- Where the test finds growth, a job comes round with others behind it, plans become as long as one likes, and so no list of plans has them all.
 -- Assumes a good table.
-use mathlib.Core.Path.{_≡_, ap, subst}
+use mathlib.Core.Path.{_≡_, subst}
 use mathlib.Core.Bool.{true}
-use mathlib.Core.List.{List, [], _∷_, _++_, List·Memᴰ, List·Memᴰ·not-nil, List·Memᴰ·cases-cons}
-use mathlib.Core.Logic.{⊎-elim}
+use mathlib.Core.List.{List, [], _∷_, _++_, List·Memᴰ}
 use Prim.Native.Nat.{ℕ, zero, suc, _+_, _≤_}
 use native.Mathlib.Omega.{arith}
 use lib.ListN.{length, length-append}
@@ -14,12 +13,21 @@ use Rattle.bpa.proofs.Rounds.Equivalence.{bisimilar-equivalent, equivalent-norm
 use Rattle.replay.proofs.ReplayMeaning.{run-over}
 use Rattle.growth.specs.Growth.{Becomes, Endless, ComesRound, SomeComesRound, Unbounded}
 use Rattle.growth.specs.Reached.{members, reached, fronts, grows-at, grows}
+use Rattle.growth.proofs.Totals.{total, within-total}
 use Rattle.growth.proofs.JobSets.{member-exactly, one-exactly}
 use Rattle.growth.proofs.RuleRows.{fronts-exactly, stands-before}
 use Rattle.growth.proofs.ReachedExact.{Leads, reached-led}
 use Rattle.growth.proofs.JobsReached.{stays, becomes-then, becomes-waiting, becomes-row, reaches-led, through-front, leads-first, led-first, reached-meaning}
 
 module _ (t : Table) (ns : List ℕ) (g : Good t ns) where
+  -- COMING ROUND: again and again
+  round-long : (j : ℕ) → ComesRound t j → (n : ℕ) → (q : List ℕ) × Becomes t (j ∷ []) (j ∷ q) × (n ≤ length q)
+  round-long j c zero = ([], stays t (j ∷ []), omega arith)
+  round-long j c (suc n) =
+      let (k, more, b) = c in
+      let (q, f, h) = round-long j c n in
+      (k ∷ more ++ q, becomes-then t f (becomes-waiting t q b), omega (arith, h, length-append more q))
+
   -- THE TEST TRUE: a row of a job with another behind one that leads back
   row-round : (j a k i : ℕ) (u v w : List ℕ) → List·Memᴰ {A = Rule} (record { job = j; move = a; after = w }) (t .rules) →
       w ≡ u ++ k ∷ i ∷ v → Leads t k j → ComesRound t j
@@ -47,14 +55,6 @@ module _ (t : Table) (ns : List ℕ) (g : Good t ns) where
       let (j, m, k) = one-exactly (grows-at t) (members (reached t p)) .0 h in
       (j, reached-meaning t ns g p o j .0 (member-exactly j (reached t p) .0 m), at-round j k)
 
-  -- COMING ROUND: again and again
-  round-long : (j : ℕ) → ComesRound t j → (n : ℕ) → (q : List ℕ) × Becomes t (j ∷ []) (j ∷ q) × (n ≤ length q)
-  round-long j c zero = ([], stays t (j ∷ []), omega arith)
-  round-long j c (suc n) =
-      let (k, more, b) = c in
-      let (q, f, h) = round-long j c n in
-      (k ∷ more ++ q, becomes-then t f (becomes-waiting t q b), omega (arith, h, length-append more q))
-
   module _ (p : List ℕ) (o : over t p ≡ true) where
     pub round-unbounded : SomeComesRound t p → Unbounded t p
     round-unbounded (j, r, c) n =
@@ -63,26 +63,16 @@ module _ (t : Table) (ns : List ℕ) (g : Good t ns) where
         (j ∷ q ++ back, becomes-then t b (becomes-waiting t back f), omega (arith, h, length-append q back))
 
     -- plans that are bisimilar have equal norms, and a plan is no longer than its norm
-    total : List (List ℕ) → ℕ
-    total [] = 0
-    total (r ∷ rs) = sum-of ns r + total rs
-
-    within-total : (r : List ℕ) (rs : List (List ℕ)) → List·Memᴰ r rs → sum-of ns r ≤ total rs
-    unfolding total
-    within-total r [] m = absurd (List·Memᴰ·not-nil m)
-    within-total r (s ∷ rs) m =
-        ⊎-elim (λ (e : r ≡ s). omega (arith, ap (sum-of ns) e)) (λ n. omega (arith, within-total r rs n)) (List·Memᴰ·cases-cons m)
-
     pub unbounded-endless : Unbounded t p → Endless t p
     unbounded-endless long plans =
-        let (q, b, h) = long (suc (total plans)) in (
+        let (q, b, h) = long (suc (total (sum-of ns) plans)) in (
           q,
           b,
           λ r m s.
               omega (
                 arith,
                 h,
-                within-total r plans m,
+                within-total (sum-of ns) r plans m,
                 length-norm t ns g q (run-over t ns g (b .1) o),
                 equivalent-norm t ns g q r (s .over-left) (s .over-right) (bisimilar-equivalent t ns g q r s),
               ),

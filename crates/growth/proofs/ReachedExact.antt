@@ -13,8 +13,9 @@ use Rattle.bpa.proofs.Basics.Plans.{over-none, over-cons}
 use Rattle.bpa.proofs.Basics.Cases.{by-test, or-cases, or-left, or-right}
 use Rattle.bpa.proofs.Basics.Counting.{count, count-more}
 use Rattle.bpa.proofs.Basics.EachJob.{Each, each-over}
-use Rattle.growth.specs.Reached.{JobSet, has, set-of, has-job, comes-in, widened, widened-by, reached, fronts}
-use Rattle.growth.proofs.JobSets.{length-of, has-set, all-pass, has-job-exactly}
+use Rattle.alike.specs.Alike.{stands-in}
+use Rattle.growth.specs.Reached.{JobSet, has, set-of, comes-in, widened, widened-by, reached, fronts}
+use Rattle.growth.proofs.JobSets.{length-of, has-set, all-pass, stands-member}
 use Rattle.growth.proofs.RuleRows.{comes-exactly, fronts-exactly, in-row}
 
 -- one job leads to another: by rules, each of a job in the row before
@@ -52,7 +53,7 @@ module _ (t : Table) where
 
   pub reached-length : (p : List ℕ) → length (reached t p) ≡ t .jobs
   unfolding reached
-  reached-length p = rounds-length (t .jobs) (set-of (has-job p) (t .jobs)) (length-of (has-job p) (t .jobs))
+  reached-length p = rounds-length (t .jobs) (set-of (stands-in p) (t .jobs)) (length-of (stands-in p) (t .jobs))
 
   -- ONLY SUCH JOBS are found
   module _ (p : List ℕ) where
@@ -70,12 +71,12 @@ module _ (t : Table) where
     rounds-led zero s f = f
     rounds-led (suc n) s f = rounds-led n (widened t s) (round-led s f)
 
-    start-led : AllLed (set-of (has-job p) (t .jobs))
-    start-led j h = (j, has-job-exactly p j .0 (has-set (has-job p) (t .jobs) j .0 h .1), itself j)
+    start-led : AllLed (set-of (stands-in p) (t .jobs))
+    start-led j h = (j, stands-member p j .0 (has-set (stands-in p) (t .jobs) j .0 h .1), itself j)
 
     pub reached-led : (j : ℕ) → has (reached t p) j ≡ true → Led t p j
     unfolding reached
-    reached-led = rounds-led (t .jobs) (set-of (has-job p) (t .jobs)) start-led
+    reached-led = rounds-led (t .jobs) (set-of (stands-in p) (t .jobs)) start-led
 
   -- ALL OF THEM are found
   module _ (closed : (j a : ℕ) (w : List ℕ) → HasRule t j a w → over t w ≡ true) where
@@ -161,16 +162,16 @@ module _ (t : Table) where
 
     module _ (p : List ℕ) (o : over t p ≡ true) where
       abbrev start : JobSet
-      start = set-of (has-job p) (t .jobs)
+      start = set-of (stands-in p) (t .jobs)
 
       start-within : Within start
-      start-within j h = has-set (has-job p) (t .jobs) j .0 h .0
+      start-within j h = has-set (stands-in p) (t .jobs) j .0 h .0
 
       led-reached : (j : ℕ) → Led t p j → has (reached t p) j ≡ true
       unfolding reached
       led-reached j (i, m, l) =
           closed-leads (widened-by (t .jobs) t start) (enough (t .jobs) start start-within (inr (omega arith))) l
-          (rounds-keep (t .jobs) start start-within i (has-set (has-job p) (t .jobs) i .1 (each-over t p o i m, has-job-exactly p i .1 m)))
+          (rounds-keep (t .jobs) start start-within i (has-set (stands-in p) (t .jobs) i .1 (each-over t p o i m, stands-member p i .1 m)))
 
       pub reached-exactly : (j : ℕ) → (has (reached t p) j ≡ true) ↔ Led t p j
       reached-exactly j = (reached-led p j, led-reached j)

@@ -1,16 +1,16 @@
 -- Rows of the rules of jobs: the jobs in them, and those that others stand behind. Assumes nothing.
 use mathlib.Core.Path.{_≡_, refl, sym, ap, subst}
-use mathlib.Core.Bool.{Bool, true, false, _&&_, cond, true≢false}
+use mathlib.Core.Bool.{Bool, true, false, _&&_, true≢false}
 use mathlib.Core.List.{List, [], _∷_, _++_, List·Memᴰ, List·Memᴰ·head, List·Memᴰ·tail, List·Memᴰ·not-nil, List·Memᴰ·cases-cons}
-use mathlib.Core.List.{List·Memᴰ·append-cases, Memᴰ·append-left, Memᴰ·append-right}
-use mathlib.Core.Logic.{_↔_, _⊎_, inl, inr, ⊎-elim}
+use mathlib.Core.Logic.{_↔_, _⊎_, ⊎-elim}
 use Prim.Native.Nat.{ℕ}
 use lib.Dec.{eqb}
 use borrow.Author.Tests.{eqb-true, eq-eqb}
 use Rattle.bpa.specs.Plans.{Rule}
 use Rattle.bpa.proofs.Basics.Cases.{or-cases, or-left, or-right, and-left, and-right, and-both}
-use Rattle.growth.specs.Reached.{JobSet, has, has-job, comes-in, all-but-last, fronts}
-use Rattle.growth.proofs.JobSets.{has-job-exactly}
+use Rattle.alike.specs.Alike.{stands-in}
+use Rattle.growth.specs.Reached.{JobSet, has, comes-in, all-but-last, fronts}
+use Rattle.growth.proofs.JobSets.{cond-cases, cond-left, cond-right, stands-member}
 
 -- a job in the row of a rule of a member
 abbrev ComesIn : JobSet → List Rule → (job : ℕ) → Type 0
@@ -22,7 +22,7 @@ comes-exactly s [] j = ((λ e. absurd (true≢false (sym e))), (λ w. absurd (Li
 comes-exactly s (r ∷ rs) j = (
   (λ e.
       ⊎-elim
-      (λ h. (r, List·Memᴰ·head refl, and-left a b h, has-job-exactly (r .after) j .0 (and-right a b h)))
+      (λ h. (r, List·Memᴰ·head refl, and-left a b h, stands-member (r .after) j .0 (and-right a b h)))
       (λ h. let (q, m, i, k) = comes-exactly s rs j .0 h in (q, List·Memᴰ·tail m, i, k))
       (or-cases (a && b) (comes-in s rs j) e)),
   (λ w.
@@ -31,7 +31,7 @@ comes-exactly s (r ∷ rs) j = (
       (λ (e : q ≡ r).
       or-left (a && b) (comes-in s rs j)
       (and-both a b (subst (λ (x : Rule). has s (x .job) ≡ true) e i)
-      (has-job-exactly (r .after) j .1 (subst (λ (x : Rule). List·Memᴰ j (x .after)) e k))))
+      (stands-member (r .after) j .1 (subst (λ (x : Rule). List·Memᴰ j (x .after)) e k))))
       (λ n. or-right (a && b) (comes-in s rs j) (comes-exactly s rs j .1 (q, n, i, k)))
       (List·Memᴰ·cases-cons m)),
 )
@@ -40,24 +40,11 @@ comes-exactly s (r ∷ rs) j = (
     a = has s (r .job)
 
     b : Bool
-    b = has-job (r .after) j
+    b = stands-in (r .after) j
 
 -- a job that others stand behind, in a row of a job
 abbrev pub InFront : List Rule → (job front : ℕ) → Type 0
 InFront rs j k = (r : Rule) × List·Memᴰ r rs × (r .job ≡ j) × List·Memᴰ k (all-but-last (r .after))
-
-module _ (k : ℕ) (u v : List ℕ) where
-  cond-cases : (b : Bool) → List·Memᴰ k (cond b (u ++ v) v) → ((b ≡ true) × List·Memᴰ k u) ⊎ List·Memᴰ k v
-  cond-cases true m = ⊎-elim (λ n. inl (refl, n)) inr (List·Memᴰ·append-cases u m)
-  cond-cases false m = inr m
-
-  cond-left : (b : Bool) → b ≡ true → List·Memᴰ k u → List·Memᴰ k (cond b (u ++ v) v)
-  cond-left true e m = Memᴰ·append-left v m
-  cond-left false e m = absurd (true≢false (sym e))
-
-  cond-right : (b : Bool) → List·Memᴰ k v → List·Memᴰ k (cond b (u ++ v) v)
-  cond-right true m = Memᴰ·append-right u m
-  cond-right false m = m
 
 pub fronts-exactly : (rs : List Rule) (j k : ℕ) → List·Memᴰ k (fronts rs j) ↔ InFront rs j k
 unfolding fronts

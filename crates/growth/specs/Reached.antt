@@ -5,6 +5,7 @@ use Prim.Native.Nat.{ℕ, zero, suc, _+_, _*_}
 use lib.Dec.{eqb}
 use lib.ListN.{length, getD}
 use Rattle.bpa.specs.Plans.{Rule, Table}
+use Rattle.alike.specs.Alike.{stands-in}
 
 -- SETS OF JOBS: for each job whether it is in the set
 abbrev pub JobSet : Type 0
@@ -29,17 +30,12 @@ set-from f (suc n) j = f j ∷ set-from f n (suc j)
 abbrev pub set-of : (test : ℕ → Bool) → (jobs : ℕ) → JobSet
 set-of f n = set-from f n 0
 
--- THE JOBS THAT A PLAN CAN REACH. At first those that stand in it
-unfoldable pub has-job : (plan : List ℕ) → (job : ℕ) → Bool
-has-job [] j = false
-has-job (i ∷ is) j = eqb i j || has-job is j
-
--- a job in the row of a rule of a member
+-- THE JOBS THAT A PLAN CAN REACH. A job in the row of a rule of a member
 unfoldable pub comes-in : JobSet → List Rule → (job : ℕ) → Bool
 comes-in s [] j = false
-comes-in s (r ∷ rs) j = (has s (r .job) && has-job (r .after) j) || comes-in s rs j
+comes-in s (r ∷ rs) j = (has s (r .job) && stands-in (r .after) j) || comes-in s rs j
 
--- a round adds those; as many rounds as jobs are enough, since a round that adds none is the last that could
+-- a round adds those; as many rounds as jobs are enough, since a round that adds none is the last that could. The jobs of the plan are the first set
 unfoldable pub widened : Table → JobSet → JobSet
 widened t s = set-of (λ j. has s j || comes-in s (t .rules) j) (t .jobs)
 
@@ -48,7 +44,7 @@ widened-by zero t s = s
 widened-by (suc n) t s = widened-by n t (widened t s)
 
 unfoldable pub reached : Table → (plan : List ℕ) → JobSet
-reached t p = widened-by (t .jobs) t (set-of (has-job p) (t .jobs))
+reached t p = widened-by (t .jobs) t (set-of (stands-in p) (t .jobs))
 
 -- THE TEST. The jobs of a row that others stand behind: all but the last
 unfoldable pub all-but-last : (row : List ℕ) → List ℕ

@@ -51,7 +51,7 @@ use Rattle.deterministic.specs.Deterministic.{is-choice, choice-with, choice-am
 use Rattle.deterministic.specs.CompleteRuns.{SameRuns, by-each, runs-within, each-rest, ends-within, equal-lists, same-runs-within}
 use Rattle.deterministic.proofs.RunsListed.{same-runs-listed}
 use Rattle.growth.specs.Growth.{JobCount, GrowthSays}
-use Rattle.growth.specs.Reached.{members-from, set-from, has-job, comes-in, widened, widened-by, reached, all-but-last, fronts, grows-at, one-of, grows, growth}
+use Rattle.growth.specs.Reached.{members-from, set-from, comes-in, widened, widened-by, reached, all-but-last, fronts, grows-at, one-of, grows, growth}
 use Rattle.growth.proofs.GrowthExact.{growth-says}
 use Rattle.promises.specs.WorkedCases.{Worked, image-of, read-back, listed, HasNorms, Means, plan-passes, pair-passes, has-form}
 use Rattle.promises.specs.WorkedCases.{listed-under, under-passes, passes, all-pass, cases, Cases-hold}
@@ -71,7 +71,7 @@ unfolding all-pass passes has-form plan-passes pair-passes equal-plans same-move
     alike.replace replaced-rule replaced stands-in from-twice from-as-to clashes
     list-passes one-if is-choice choice-with choice-among no-choice by-each runs-within each-rest ends-within equal-lists same-runs-within
     log-passes log-refusal counted-log log-moves all-low-first numbers-in by-move after-move none-left one-empty replay-from replay
-    members-from set-from has-job comes-in widened widened-by reached all-but-last fronts grows-at one-of grows growth
+    members-from set-from comes-in widened widened-by reached all-but-last fronts grows-at one-of grows growth
 cases-pass = refl
 
 module _ (w : Worked) where

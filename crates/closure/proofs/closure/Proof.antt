@@ -75,7 +75,7 @@ mul-all : tie.Need-mul-all Inv-loop μ-loop
 mul-all c = omega (arith, is-job c)
 
 element-copy-out-all : tie.Need-element-copy-out-all Inv-loop μ-loop
-element-copy-out-all c = is-job c
+element-copy-out-all c = omega (arith, is-job c)
 
 shl-pending : tie.Need-shl-pending Inv-loop μ-loop
 shl-pending c = omega (arith, is-job (c .before))
@@ -84,7 +84,7 @@ sub-pending : tie.Need-sub-pending Inv-loop μ-loop
 sub-pending c = omega (arith, place (c .before), within (c .before))
 
 sub-pending-2 : tie.Need-sub-pending-2 Inv-loop μ-loop
-sub-pending-2 c = more (c .before)
+sub-pending-2 c = let i = c .before in omega (arith, more i, i .before .loop .inv .least)
 
 add-pending : tie.Need-add-pending Inv-loop μ-loop
 add-pending c = let i = c .before in omega (arith, i .before .loop .inv .least, all-is-small i, more i)

@@ -22,7 +22,7 @@ abbrev μ-loop : tie.MeasureT-loop
 comes-back-requires : tie.Need-comes-back-requires Inv-loop μ-loop
 comes-back-requires c κs =
     let s = c .before .before .before in
-    (s .pre .0, (s .pre .1 .0, c .before .loop-test .taken))
+    (s .pre .0, (s .pre .1 .0, omega (arith, c .before .loop-test .taken)))
 
 returns : tie.Need-returns Inv-loop μ-loop
 unfolding bit

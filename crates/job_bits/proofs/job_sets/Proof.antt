@@ -93,8 +93,8 @@ loop-again c =
     let r = c .before .before in
     let t = turn r in (
       omega (arith, t .loop-test .taken),
-      length-set (at t .loop .rows) (job r) (bitOr (getD (at t .loop .rows) (job r) 0) (r .row-sets .result .all)) ∙ at t .loop .inv .1,
-      length-set (at t .loop .fronts) (job r) (bitOr (getD (at t .loop .fronts) (job r) 0) (r .row-sets .result .front)) ∙ at t .loop .inv .2,
+      length-set (at t .loop .rows) (job r) _ ∙ at t .loop .inv .1,
+      length-set (at t .loop .fronts) (job r) _ ∙ at t .loop .inv .2,
       rw (add-one) (next r),
     )
 
