@@ -41,7 +41,7 @@ module _ (ps : List Pair) (f : ℕ → ℕ) (same : (a : ℕ) → f a ≡ replac
     few = omega (arith, count-same, g .few);
     job = g .job;
     jobs = g .jobs;
-    places = ap (λ (n : ℕ). places-good n jobs new) count-same ∙ moves-good f (rule-count rs) jobs rs room ∙ g .places;
+    places = ap (λ (n : ℕ). places-good n jobs new) count-same ∙ moves-good f jobs (rule-count rs) rs room (g .places);
   }
 
   rule-moved : (r : Rule) → replaced-rule ps r ≡ record { job = r .job; move = f (r .move); after = r .after }
@@ -52,7 +52,7 @@ module _ (ps : List Pair) (f : ℕ → ℕ) (same : (a : ℕ) → f a ≡ replac
   unfolding table-of replaced
   new-table =
       let rules : rules-in (rule-count new) new ≡ map (replaced-rule ps) (rules-in (rule-count rs) rs) =
-      ap (λ (n : ℕ). rules-in n new) count-same ∙ moves-rules f (replaced-rule ps) rule-moved (rule-count rs) jobs rs room (g .places) in
+      ap (λ (n : ℕ). rules-in n new) count-same ∙ moves-rules f jobs (replaced-rule ps) rule-moved (rule-count rs) rs room (g .places) in
       λ i. record { jobs = jobs; rules = rules i }
 
   new-norms : (ns : List ℕ) → GoodNorms jobs rs ns → GoodNorms jobs new ns

@@ -2,37 +2,21 @@
 -- replaced, and a good list stays good. Assumes nothing.
 use mathlib.Core.Path.{_≡_, refl, sym, ap, ap₂, _∙_}
 use mathlib.Core.Bool.{true, _&&_}
-use mathlib.Core.List.{List, [], _∷_, _++_, map, append-assoc, append-nil}
+use mathlib.Core.List.{List, [], _∷_, _++_, map}
 use Prim.Native.Nat.{ℕ, zero, suc, _+_, _*_, _-_, _/_, _%_, _≤_, _<_}
 use native.Mathlib.Omega.{arith}
 use lib.Dec.{ltb, leb}
-use lib.ListN.{length, getD, take, drop, length-append, length-drop}
-use lib.Seq.{length-take-le, take-at, drop-at, take-take, take-append-le, drop-drop}
+use lib.ListN.{length, getD, take, drop}
+use lib.Seq.{take-take, take-append-le, drop-drop}
 use borrow.Author.Tests.{leb-true}
 use Rattle.bpa.specs.Plans.{Rule, all-below}
-use Rattle.bpa.proofs.Basics.Cases.{by-test, and-left, and-right}
+use Rattle.bpa.proofs.Basics.Cases.{by-test}
 use Rattle.area.specs.Areas.{put}
-use Rattle.rules.specs.Places.{all-zero, move-in, with-move, rule-in, place-good, each-place, places-good, rules-in}
-use Rattle.rules.proofs.ListLaws.{place-next}
+use Rattle.rules.specs.Places.{all-zero, move-in, with-move, rule-in, place-good, places-good, changed-places, rules-in}
 use Rattle.rules.proofs.PlaceBack.{after-few}
+use Rattle.rules.proofs.ChangedPlaces.{Place, eight, place-of-eight, each-any, changed-length, changed-each, changed-rules}
 use Rattle.image.proofs.PlaceRows.{drop-take}
-use Rattle.replacing.specs.ReplacedMoves.{with-moves}
-
--- a place has eight bytes
-pub data Place : List ℕ → Type 0 where
-  eight : (a b c d e f g h : ℕ) → Place (a ∷ b ∷ c ∷ d ∷ e ∷ f ∷ g ∷ h ∷ [])
-
-pub place-of-eight : (xs : List ℕ) → length xs ≡ 8 → Place xs
-place-of-eight [] l = absurd (omega arith)
-place-of-eight (a ∷ []) l = absurd (omega arith)
-place-of-eight (a ∷ b ∷ []) l = absurd (omega arith)
-place-of-eight (a ∷ b ∷ c ∷ []) l = absurd (omega arith)
-place-of-eight (a ∷ b ∷ c ∷ d ∷ []) l = absurd (omega arith)
-place-of-eight (a ∷ b ∷ c ∷ d ∷ e ∷ []) l = absurd (omega arith)
-place-of-eight (a ∷ b ∷ c ∷ d ∷ e ∷ f ∷ []) l = absurd (omega arith)
-place-of-eight (a ∷ b ∷ c ∷ d ∷ e ∷ f ∷ g ∷ []) l = absurd (omega arith)
-place-of-eight (a ∷ b ∷ c ∷ d ∷ e ∷ f ∷ g ∷ h ∷ []) l = eight a b c d e f g h
-place-of-eight (a ∷ b ∷ c ∷ d ∷ e ∷ f ∷ g ∷ h ∷ i ∷ xs) l = absurd (omega arith)
+use Rattle.replacing.specs.ReplacedMoves.{moved, with-moves}
 
 -- the row of jobs ends before the last byte
 row-same : (c d e f g h i : ℕ) → c ≤ 4 → take c (d ∷ e ∷ f ∷ g ∷ h ∷ []) ≡ take c (d ∷ e ∷ f ∷ g ∷ i ∷ [])
@@ -71,73 +55,41 @@ own-move xs (eight a b c d e f g h) l =
     let high : (b + 256 * h) / 256 ≡ h = omega arith in
     λ i. a ∷ low i ∷ c ∷ d ∷ e ∷ f ∷ g ∷ high i ∷ []
 
--- SO MANY PLACES
+-- SO MANY PLACES, of any bytes
 module _ (f : ℕ → ℕ) where
-  -- the first of them
-  module _ (k : ℕ) (xs : List ℕ) (h : 8 * suc k ≤ length xs) where
-    first : Place (take 8 xs)
-    first = place-of-eight (take 8 xs) (length-take-le 8 xs (omega arith))
-
-    rest : 8 * k ≤ length (drop 8 xs)
-    rest = omega (arith, length-drop 8 xs)
-
-    front : take 8 (with-moves f (suc k) xs) ≡ with-move (f (move-in (take 8 xs))) (take 8 xs)
-    unfolding with-moves
-    front = take-at (with-move (f (move-in (take 8 xs))) (take 8 xs)) (with-moves f k (drop 8 xs)) 8 (with-length (f (move-in (take 8 xs))) (take 8 xs) first)
-
-    behind : drop 8 (with-moves f (suc k) xs) ≡ with-moves f k (drop 8 xs)
-    unfolding with-moves
-    behind = drop-at (with-move (f (move-in (take 8 xs))) (take 8 xs)) (with-moves f k (drop 8 xs)) 8 (with-length (f (move-in (take 8 xs))) (take 8 xs) first)
+  pub moved-size : (y : List ℕ) → length y ≡ 8 → true ≡ true → length (moved f y) ≡ 8
+  moved-size y e h = with-length (f (move-in y)) y (place-of-eight y e)
 
   pub moves-length : (k : ℕ) (xs : List ℕ) → 8 * k ≤ length xs → length (with-moves f k xs) ≡ 8 * k
-  unfolding with-moves
-  moves-length zero xs h = refl
-  moves-length (suc k) xs h =
-      let w = with-move (f (move-in (take 8 xs))) (take 8 xs) in
-      length-append w (with-moves f k (drop 8 xs))
-      ∙ omega (arith, with-length (f (move-in (take 8 xs))) (take 8 xs) (first k xs h), moves-length k (drop 8 xs) (rest k xs h))
-
-  -- a place with the move that its own counts as, and one place more
-  abbrev pub moved : (place : List ℕ) → List ℕ
-  moved y = with-move (f (move-in y)) y
-
-  pub moves-more : (k : ℕ) (xs : List ℕ) → with-moves f (suc k) xs ≡ with-moves f k xs ++ moved (take 8 (drop (8 * k) xs))
-  unfolding with-moves
-  moves-more zero xs = append-nil _
-  moves-more (suc k) xs =
-      let w = with-move (f (move-in (take 8 xs))) (take 8 xs) in
-      ap (λ (l : List ℕ). w ++ l)
-      (moves-more k (drop 8 xs) ∙ ap (λ (l : List ℕ). with-moves f k (drop 8 xs) ++ moved (take 8 l)) (place-next xs k))
-      ∙ sym (append-assoc w (with-moves f k (drop 8 xs)) (moved (take 8 (drop (8 * suc k) xs))))
+  moves-length k xs h = changed-length (moved f) (λ y. true) moved-size k xs h (each-any k xs)
 
   -- they are those of the front
   pub moves-front : (k m : ℕ) (xs : List ℕ) → 8 * k ≤ m → with-moves f k (take m xs) ≡ with-moves f k xs
-  unfolding with-moves
+  unfolding changed-places
   moves-front zero m xs h = refl
   moves-front (suc k) m xs h =
       let e : take 8 (take m xs) ≡ take 8 xs = take-take 8 m xs (omega arith) in
       let eight-more : m ≡ 8 + (m - 8) = omega arith in
       let d : drop 8 (take m xs) ≡ take (m - 8) (drop 8 xs) = ap (λ (n : ℕ). drop 8 (take n xs)) eight-more ∙ drop-take 8 (m - 8) xs in
-      ap₂ (λ (a b : List ℕ). with-move (f (move-in a)) a ++ with-moves f k b) e d
-      ∙ ap (λ (l : List ℕ). with-move (f (move-in (take 8 xs))) (take 8 xs) ++ l) (moves-front k (m - 8) (drop 8 xs) (omega arith))
+      ap₂ (λ (a b : List ℕ). moved f a ++ with-moves f k b) e d
+      ∙ ap (λ (l : List ℕ). moved f (take 8 xs) ++ l) (moves-front k (m - 8) (drop 8 xs) (omega arith))
 
-  -- A GOOD LIST STAYS GOOD
-  pub moves-good : (k n : ℕ) (xs : List ℕ) → 8 * k ≤ length xs → places-good k n (with-moves f k xs) ≡ places-good k n xs
-  unfolding places-good each-place
-  moves-good zero n xs h = refl
-  moves-good (suc k) n xs h =
-      ap₂ (λ (a b : List ℕ). place-good n a && each-place (place-good n) k b) (front k xs h) (behind k xs h)
-      ∙ ap₂ _&&_ (with-good (f (move-in (take 8 xs))) n (take 8 xs) (first k xs h)) (moves-good k n (drop 8 xs) (rest k xs h))
+  -- A GOOD LIST
+  module _ (n : ℕ) where
+    good-size : (y : List ℕ) → length y ≡ 8 → place-good n y ≡ true → length (moved f y) ≡ 8
+    good-size y e h = moved-size y e refl
 
-  -- AND ITS RULES make the moves that their own count as
-  pub moves-rules : (g : Rule → Rule) → ((r : Rule) → g r ≡ record { job = r .job; move = f (r .move); after = r .after }) →
-      (k n : ℕ) (xs : List ℕ) → 8 * k ≤ length xs → places-good k n xs ≡ true → rules-in k (with-moves f k xs) ≡ map g (rules-in k xs)
-  unfolding rules-in places-good each-place rule-in
-  moves-rules g e zero n xs h good = refl
-  moves-rules g e (suc k) n xs h good =
-      let here = and-left (place-good n (take 8 xs)) (each-place (place-good n) k (drop 8 xs)) good in
-      let later = and-right (place-good n (take 8 xs)) (each-place (place-good n) k (drop 8 xs)) good in
-      ap₂ (λ (a b : List ℕ). rule-in a ∷ rules-in k b) (front k xs h) (behind k xs h)
-      ∙ ap₂ (λ (a : Rule) (b : List Rule). a ∷ b)
-      (with-rule (f (move-in (take 8 xs))) (take 8 xs) (first k xs h) (after-few n (take 8 xs) here) ∙ sym (e (rule-in (take 8 xs))))
-      (moves-rules g e k n (drop 8 xs) (rest k xs h) later)
+    -- stays good
+    pub moves-good : (k : ℕ) (xs : List ℕ) → 8 * k ≤ length xs → places-good k n xs ≡ true → places-good k n (with-moves f k xs) ≡ true
+    unfolding places-good
+    moves-good k xs =
+        changed-each (moved f) (place-good n) good-size (place-good n)
+        (λ y e h. with-good (f (move-in y)) n y (place-of-eight y e) ∙ h) k xs
+
+    -- AND ITS RULES make the moves that their own count as
+    pub moves-rules : (g : Rule → Rule) → ((r : Rule) → g r ≡ record { job = r .job; move = f (r .move); after = r .after }) →
+        (k : ℕ) (xs : List ℕ) → 8 * k ≤ length xs → places-good k n xs ≡ true → rules-in k (with-moves f k xs) ≡ map g (rules-in k xs)
+    unfolding places-good rule-in
+    moves-rules g e k xs =
+        changed-rules (moved f) (place-good n) good-size g
+        (λ y d h. with-rule (f (move-in y)) y (place-of-eight y d) (after-few n y h) ∙ sym (e (rule-in y))) k xs

@@ -3,3 +3,4 @@ pub mod PlaceLaws
 pub mod ListLaws
 pub mod Zeros
 pub mod PlaceBack
+pub mod ChangedPlaces

@@ -35,6 +35,11 @@ unfoldable pub each-place : (check : List ℕ → Bool) → (left : ℕ) → Lis
 each-place f zero xs = true
 each-place f (suc k) xs = f (take 8 xs) && each-place f k (drop 8 xs)
 
+-- and each of them changed
+unfoldable pub changed-places : (change : List ℕ → List ℕ) → (left : ℕ) → List ℕ → List ℕ
+changed-places f zero xs = []
+changed-places f (suc k) xs = f (take 8 xs) ++ changed-places f k (drop 8 xs)
+
 unfoldable pub places-good : (left : ℕ) → (jobs : ℕ) → List ℕ → Bool
 places-good k n xs = each-place (place-good n) k xs
 

@@ -9,7 +9,8 @@ use lib.ListN.{take}
 use Rattle.rules.specs.Places.{move-in, with-move}
 use Rattle.alike.specs.Alike.{stands-in}
 use Rattle.alike_list.specs.PairArrays.{sum-at, counts-as}
-use Rattle.replacing.proofs.ReplacedPlaces.{place-of-eight, own-move}
+use Rattle.rules.proofs.ChangedPlaces.{place-of-eight}
+use Rattle.replacing.proofs.ReplacedPlaces.{own-move}
 use Rattle.replacing.proofs.replace_move.Statement.{statement}
 use Rattle.replacing.proofs.replace_move.Tie as tie
 
