@@ -4,6 +4,7 @@ ghost use Rattle.images.specs.ImageCalls.{Read, Written};
 ghost use Rattle.plans.specs.PlanCalls.{Normed, Moved, RanFirst};
 ghost use Rattle.sameness.specs.SamenessCalls.{Compared, ComparedAlike};
 ghost use Rattle.prime_forms.specs.FormCalls.{Formed, FormedAlike};
+ghost use Rattle.two_tables.specs.TableCalls.{ComparedTables};
 ghost use Rattle.logs.specs.LogCalls.{Replayed};
 ghost use Rattle.outcomes.specs.OutcomeCalls.{Determined};
 ghost use Rattle.plan_growth.specs.GrowthCalls.{Grown};
@@ -130,4 +131,19 @@ pub extern "C" fn gindrazoma_plan_growth(image: &[u8], plan: &[u8]) -> i32
     ensures { λ r. ⌜ Grown (now (image .entry)) (now (plan .entry)) r ⌝ }
 {
     plan_growth::plan_growth(image, plan)
+}
+
+// Whether a plan of one table is bisimilar to a plan of another under an alike list: 1 for same, 0 for apart.
+#[no_mangle]
+pub extern "C" fn gindrazoma_compare_tables(
+    left_image: &[u8],
+    right_image: &[u8],
+    alike: &[u8],
+    left: &[u8],
+    right: &[u8],
+    space: &mut [u8],
+) -> i32
+    ensures { λ r. ⌜ ComparedTables (now («left_image» .entry)) (now («right_image» .entry)) (now (alike .entry)) (now (left .entry)) (now (right .entry)) (now (space .entry)) r (now (space .exit)) ⌝ }
+{
+    two_tables::compare_tables(left_image, right_image, alike, left, right, space)
 }

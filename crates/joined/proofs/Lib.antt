@@ -1,0 +1,9 @@
+-- Laws of joined tables.
+pub mod RenumberedPlans
+pub mod JoinedRules
+pub mod JoinedNorms
+pub mod StepsThrough
+pub mod JoinedSteps
+pub mod BetweenTables
+pub mod RenamedTables
+pub mod ReplacedBoth

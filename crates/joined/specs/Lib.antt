@@ -1,0 +1,2 @@
+-- Two tables joined.
+pub mod Joined

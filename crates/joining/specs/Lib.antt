@@ -1,0 +1,2 @@
+-- Tables joined, as bytes.
+pub mod JoinedBytes

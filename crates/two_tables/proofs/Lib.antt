@@ -1,0 +1,2 @@
+-- Laws of the call about two tables.
+pub mod PlansBetween

@@ -1,0 +1,2 @@
+-- What the call about two tables answers.
+pub mod TableCalls
