@@ -10,7 +10,8 @@
  * EVERY CALL
  *  - gives back one signed number: a refusal is its number (enum gindrazoma_refusal) made negative;
  *    any other answer is 0 or more and is named at the call.
- *  - makes its checks in this order: 1 of the workspace; 2 to 7 of the image, each over all its blocks; 12 and
+ *  - makes its checks in this order: 1 of the workspace; 2 to 7 of the image, each over all its blocks, and where
+ *    there are two images, all of them of the left one and then of the right one; 15 of the two tables; 12 and
  *    13 of the alike list; 8 and 9 of the plans, each of the left and then of the right one; 11 of the log; 10 of
  *    the output.
  *    The first that fails is the answer. A call makes only the checks of what it was given.
@@ -21,7 +22,7 @@
  *  - An area is a pointer to as many bytes as its length says. Areas of any length are accepted.
  *  - A NULL pointer is allowed with length 0 only.
  *  - An area that is written to (output, workspace) overlaps no other area of the call. Areas that are
- *    only read (image, alike list, rules, plans, log) may coincide.
+ *    only read (images, alike list, rules, plans, log) may coincide.
  *  - Where one of these does not hold, what the call does is undefined, in C's sense of the word.
  *  - After a refusal the output area keeps its bytes. After an answer, its bytes beyond the answer's
  *    output keep theirs. No byte of the output is written before refusal 10 is excluded.
@@ -36,6 +37,7 @@
  *    that one replacement is all there is; a to-move may stand often, and moves that no rule makes may stand.
  *  - A list of length 0 is no list: moves match if they are equal, and the call answers as the one without a list does,
  *    if there is one.
+ *  - A call that takes two tables replaces the moves of both.
  *  - Norms do not depend on a list. Shortest runs and the n-th move show moves as the table has them.
  *  - A log that is replayed under a list has its moves replaced too.
  *  - Prime forms are made for one list: forms made under different lists are not to be compared.
@@ -48,9 +50,9 @@
 
 /* The version of this header, and of the archive that it belongs to. */
 #define GINDRAZOMA_VERSION_MAJOR 3
-#define GINDRAZOMA_VERSION_MINOR 5
+#define GINDRAZOMA_VERSION_MINOR 6
 #define GINDRAZOMA_VERSION_PATCH 0
-#define GINDRAZOMA_VERSION "3.5.0"
+#define GINDRAZOMA_VERSION "3.6.0"
 
 #ifdef __cplusplus
 extern "C" {
@@ -59,24 +61,25 @@ extern "C" {
 /* The reasons for which a call is refused. An answer is one of these made negative. */
 enum gindrazoma_refusal {
     GINDRAZOMA_WORKSPACE_SHORT = 1, /* the workspace is shorter than 65,536 bytes */
-    GINDRAZOMA_BAD_LENGTH = 2,      /* the image is not 1 to 4 blocks of 512 bytes; the rules are not 1 to 252 of 8 bytes */
+    GINDRAZOMA_BAD_LENGTH = 2,      /* an image is not 1 to 4 blocks of 512 bytes; the rules are not 1 to 252 of 8 bytes */
     GINDRAZOMA_BAD_CHECKSUM = 3,    /* the checksum of some block is wrong */
     GINDRAZOMA_BAD_HEADER = 4,      /* a job count, rule count, block number or number of blocks is wrong */
     GINDRAZOMA_BAD_PLACE = 5,       /* a place has a job at or above the count, more than 4 jobs after, or a byte that should be 0 */
     GINDRAZOMA_NO_NORM = 6,         /* some job can never finish; a job without rules is one */
     GINDRAZOMA_JOB_NORM_HIGH = 7,   /* some job has a norm above 512 */
-    GINDRAZOMA_NO_SUCH_JOB = 8,     /* a plan names a job at or above the count */
+    GINDRAZOMA_NO_SUCH_JOB = 8,     /* a plan names a job at or above its table's count */
     GINDRAZOMA_PLAN_NORM_HIGH = 9,  /* a plan has a norm above 4,096 */
     GINDRAZOMA_OUTPUT_SHORT = 10,   /* the output area is shorter than the output */
     GINDRAZOMA_LOG_LENGTH = 11,     /* the log has more than 128 moves, or half a move at its end */
     GINDRAZOMA_ALIKE_LENGTH = 12,   /* the alike list has more than 32 pairs, or an unfinished one at its end */
-    GINDRAZOMA_ALIKE_CLASH = 13     /* a from-move stands twice in the alike list, or stands in it as a to-move */
+    GINDRAZOMA_ALIKE_CLASH = 13,    /* a from-move stands twice in the alike list, or stands in it as a to-move */
+    GINDRAZOMA_TABLES_LARGE = 15    /* the two tables together have more than 24 jobs or more than 252 rules */
 };
 
 enum {
     /* Limits. README.md lists them. */
-    GINDRAZOMA_JOBS_MAX = 24,        /* jobs of a table */
-    GINDRAZOMA_RULES_MAX = 252,      /* rules of a table */
+    GINDRAZOMA_JOBS_MAX = 24,        /* jobs of a table, and of two together that a call joins */
+    GINDRAZOMA_RULES_MAX = 252,      /* rules of a table, and of two together that a call joins */
     GINDRAZOMA_AFTER_MAX = 4,        /* jobs after a move */
     GINDRAZOMA_JOB_NORM_MAX = 512,   /* norm of a job */
     GINDRAZOMA_PLAN_NORM_MAX = 4096, /* norm of a plan; its jobs are no more than that */
@@ -238,6 +241,29 @@ int32_t gindrazoma_deterministic(const uint8_t *image, size_t image_len, const u
  * Refusals: 2, 3, 4, 5, 6, 7, 8, 9.
  */
 int32_t gindrazoma_plan_growth(const uint8_t *image, size_t image_len, const uint8_t *plan, size_t plan_len);
+
+/*
+ * Compares a plan over one table with a plan over another, under an alike list: the left plan has jobs of the left table,
+ * and the right plan jobs of the right table. They are compared over the joined table. It has the left table's jobs and
+ * rules as they are, and behind them those of the right table, whose jobs are numbered on from the left one's: job j of it
+ * is job j plus the left table's job count, in its rules and in the right plan. No job of one table ever becomes a job of
+ * the other; what the tables have in common is the numbers of moves.
+ *
+ * The two tables together have at most GINDRAZOMA_JOBS_MAX jobs and GINDRAZOMA_RULES_MAX rules, where a rule counts as often
+ * as it is written. The list replaces the moves of both. The jobs and the norm of each plan are judged by its own table
+ * alone. If both tables are copies of one, of at most 12 jobs and 126 rules, the answer is that of gindrazoma_compare_alike
+ * over it, refusals included; the two images may be one area. If the tables are exchanged, and the plans with them, the
+ * answer stays the same, unless it is a refusal.
+ *
+ * Answer: 1 if the plans are the same over the joined table once the moves of all its rules are replaced by the list, 0 if
+ * they are apart.
+ * Refusals: 1; 2, 3, 4, 5, 6, 7 of the left image; 2, 3, 4, 5, 6, 7 of the right image; 15, 12, 13; 8 of the left plan and
+ * then of the right one; 9 of the left plan and then of the right one; in this order.
+ */
+int32_t gindrazoma_compare_tables(const uint8_t *left_image, size_t left_image_len,
+                                  const uint8_t *right_image, size_t right_image_len,
+                                  const uint8_t *alike, size_t alike_len, const uint8_t *left, size_t left_len,
+                                  const uint8_t *right, size_t right_len, uint8_t *space, size_t space_len);
 
 #ifdef __cplusplus
 }
