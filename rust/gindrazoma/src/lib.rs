@@ -4,7 +4,7 @@
 //! a row of jobs, one byte a job. The table gives norms, moves, shortest runs and prime forms of plans, compares plans, and
 //! replays logs of moves on them. An [`Alike`] says which moves tally alike, for comparisons, prime forms and replays under it.
 //! [`Table::deterministic`] says whether comparing plans is comparing their complete runs, and [`Table::growth`] whether a plan can
-//! become finitely many different plans.
+//! become finitely many different plans. [`Table::same_as`] compares a plan of one table with a plan of another.
 //! The functions of [`raw`] are the library's own calls on the caller's areas; include/gindrazoma.h describes them.
 //!
 //! ```no_run
@@ -19,6 +19,8 @@
 //! assert_eq!(table.replay(&mut space, &[1, 2], &[1000, 1000, 1000])?, Replay::Leaves { place: 2 });
 //! assert!(table.deterministic());
 //! assert_eq!(table.growth(&[1, 2])?, Growth { jobs: 3, endless: false });
+//! let other = Table::from_rules(1, &[Rule::new(0, 1000, &[])])?;
+//! assert!(table.same_as(&mut space, &[1], &other, &[0, 0])?);
 //! # Ok::<(), gindrazoma::Refusal>(())
 //! ```
 mod alike;

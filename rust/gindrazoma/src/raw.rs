@@ -64,4 +64,5 @@ calls! {
     fn replay_log(image: &[u8], alike: &[u8], plan: &[u8], log: &[u8], space: &mut [u8]);
     fn deterministic(image: &[u8], alike: &[u8]);
     fn plan_growth(image: &[u8], plan: &[u8]);
+    fn compare_tables(left_image: &[u8], right_image: &[u8], alike: &[u8], left: &[u8], right: &[u8], space: &mut [u8]);
 }

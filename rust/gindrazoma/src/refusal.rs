@@ -17,9 +17,10 @@ pub enum Refusal {
     LogLength = 11,
     AlikeLength = 12,
     AlikeClash = 13,
+    TablesLarge = 15,
 }
 
-const ALL: [(Refusal, &str); 13] = [
+const ALL: [(Refusal, &str); 14] = [
     (Refusal::WorkspaceShort, "the workspace is shorter than 65,536 bytes"),
     (Refusal::BadLength, "the image is not 1 to 4 blocks, or the rules are not 1 to 252"),
     (Refusal::BadChecksum, "the checksum of a block is wrong"),
@@ -27,12 +28,13 @@ const ALL: [(Refusal, &str); 13] = [
     (Refusal::BadPlace, "a rule names a job at or above the count, more than 4 jobs after, or has a byte that should be 0"),
     (Refusal::NoNorm, "a job can never finish"),
     (Refusal::JobNormHigh, "a job has a norm above 512"),
-    (Refusal::NoSuchJob, "a plan names a job at or above the count"),
+    (Refusal::NoSuchJob, "a plan names a job at or above its table's count"),
     (Refusal::PlanNormHigh, "a plan has a norm above 4,096"),
     (Refusal::OutputShort, "the output area is shorter than the output"),
     (Refusal::LogLength, "the log has more than 128 moves, or half a move at its end"),
     (Refusal::AlikeLength, "the alike list has more than 32 pairs, or an unfinished one"),
     (Refusal::AlikeClash, "a from-move stands twice in the alike list, or stands in it as a to-move"),
+    (Refusal::TablesLarge, "the two tables together have more than 24 jobs or more than 252 rules"),
 ];
 
 impl Refusal {

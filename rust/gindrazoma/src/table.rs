@@ -197,4 +197,40 @@ impl Table {
     pub fn growth(&self, plan: &[u8]) -> Result<Growth, Refusal> {
         Refusal::check(raw::plan_growth(&self.image, plan)).map(Growth::of_answer)
     }
+
+    /// Whether a plan of this table, the left one, and a plan of another table are bisimilar. They are compared over the joined
+    /// table, which has this table's jobs and rules and behind them the other one's, with its jobs numbered on from this one's;
+    /// each plan is given in the job numbers of its own table. Together the tables have at most 24 jobs and 252 rules.
+    ///
+    /// ```
+    /// use gindrazoma::{Refusal, Rule, Table, Workspace};
+    /// // a container is lifted and then set down, job 1 of the ship and job 0 of the port; the port's job 1 is two containers
+    /// let ship = Table::from_rules(2, &[Rule::new(0, 301, &[1]), Rule::new(1, 320, &[])])?;
+    /// let port = Table::from_rules(3, &[Rule::new(0, 320, &[]), Rule::new(1, 301, &[0, 2]), Rule::new(2, 301, &[0])])?;
+    /// let mut space = Workspace::new();
+    /// assert!(ship.same_as(&mut space, &[0, 0], &port, &[1])?);
+    /// assert!(port.same_as(&mut space, &[1, 2], &ship, &[0, 0, 0])?);
+    /// assert!(!ship.same_as(&mut space, &[0], &port, &[1])?);
+    /// assert_eq!(ship.same_as(&mut space, &[2], &port, &[2]), Err(Refusal::NoSuchJob)); // the ship has two jobs, the port three
+    /// # Ok::<(), gindrazoma::Refusal>(())
+    /// ```
+    #[inline]
+    pub fn same_as(&self, space: &mut Workspace, left: &[u8], other: &Table, right: &[u8]) -> Result<bool, Refusal> {
+        self.same_as_alike(space, &Alike::default(), left, other, right)
+    }
+
+    /// The same once the moves of all rules of both tables are replaced by an alike list. So moves that the two tables number
+    /// otherwise can count as one.
+    #[inline]
+    pub fn same_as_alike(
+        &self,
+        space: &mut Workspace,
+        alike: &Alike,
+        left: &[u8],
+        other: &Table,
+        right: &[u8],
+    ) -> Result<bool, Refusal> {
+        let answer = raw::compare_tables(&self.image, &other.image, alike.bytes(), left, right, &mut space.0);
+        Refusal::check(answer).map(|answer| answer == 1)
+    }
 }

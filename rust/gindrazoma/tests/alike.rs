@@ -143,6 +143,7 @@ fn every_refusal_of_the_header_has_words() {
         Refusal::LogLength,
         Refusal::AlikeLength,
         Refusal::AlikeClash,
+        Refusal::TablesLarge,
     ];
     assert_eq!(all.map(|r| (format!("{r:?}").to_lowercase(), r.number())).to_vec(), refusals_of_header());
     let words: HashSet<String> =
