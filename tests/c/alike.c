@@ -304,27 +304,11 @@ static void the_same_stays_the_same(void)
     }
 }
 
-enum { PLANS = 64, LONGEST = 3 };
-
-/* All plans of up to LONGEST jobs, as far as there is room. */
-static size_t all_plans(uint32_t jobs, uint8_t plans[PLANS][LONGEST], size_t *lens)
-{
-    size_t count = 1;
-    lens[0] = 0;
-    for (size_t i = 0; i < count; i++)
-        for (uint8_t j = 0; j < jobs && lens[i] < LONGEST && count < PLANS; j++) {
-            memcpy(plans[count], plans[i], LONGEST);
-            plans[count][lens[i]] = j;
-            lens[count++] = lens[i] + 1;
-        }
-    return count;
-}
-
 /* The calls with the list answer as those without do on the table with its moves replaced. */
 static void beside_the_replaced_table(void)
 {
-    static uint8_t plans[PLANS][LONGEST], form[FORM], wanted[FORM], other[2560];
-    size_t lens[PLANS], joined = 0;
+    static uint8_t plans[ALL_PLANS][ALL_LONGEST], form[FORM], wanted[FORM], other[2560];
+    size_t lens[ALL_PLANS], joined = 0;
     for (int round = 0; round < (small_run() ? 4 : 120); round++) {
         struct table t = random_table(1 + random_below(4)), u;
         use(&t);

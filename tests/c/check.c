@@ -178,6 +178,14 @@ void area_free(struct area *a)
     free(a->before);
 }
 
+void areas_end(struct area *areas, size_t count)
+{
+    for (size_t i = 0; i < count; i++) {
+        CHECK(area_same(&areas[i]));
+        area_free(&areas[i]);
+    }
+}
+
 void space_left(const struct area *space, int32_t answer)
 {
     if (answer == -1) {

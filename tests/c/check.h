@@ -47,6 +47,7 @@ int area_kept(const struct area *a, size_t from);     /* bytes from there on and
 int area_same(const struct area *a);                  /* an area to read from is as it was */
 int area_zero(const struct area *a, size_t len);      /* that many bytes are zero */
 void area_free(struct area *a);
+void areas_end(struct area *areas, size_t count);     /* areas to read from: each is as it was, and is freed */
 
 enum { SPACE = 65536 }; /* bytes that a workspace needs */
 
@@ -89,6 +90,10 @@ struct table table_letters(uint32_t jobs, int letters);
 /* A table with its rules in random order, and some of them more than once if it has fewer than these. */
 struct table shuffled(const struct table *t, size_t rules);
 
+/* The rules of a table, with other numbers for its jobs, behind those of another; and these numbers, in random order. */
+void add_renumbered(struct table *other, const struct table *t, const uint8_t *number);
+void random_numbers(uint8_t *number, uint32_t jobs);
+
 enum { MOVES = 8 };
 int random_move(uint32_t used);      /* one of the first of the moves, up to MOVES, that random tables make */
 struct table random_table(uint32_t jobs);
@@ -98,6 +103,10 @@ struct table some_table(int which);  /* 0 to 7: one of those above; else a rando
 size_t plan_of(const char *text, uint8_t *plan);
 size_t random_plan(uint8_t *plan, uint32_t jobs, uint32_t longest);
 
+/* All plans of up to ALL_LONGEST jobs, as far as there is room for them. */
+enum { ALL_PLANS = 64, ALL_LONGEST = 3 };
+size_t all_plans(uint32_t jobs, uint8_t plans[ALL_PLANS][ALL_LONGEST], size_t *lens);
+
 enum { PAIRS = 32 }; /* pairs that a list may have */
 
 /* The image and the alike list in force. */
@@ -105,7 +114,8 @@ extern uint8_t image[2560], list[4 * (PAIRS + 8)];
 extern size_t image_len, list_len;
 
 void use(const struct table *t); /* a table comes into force, without a list */
-struct table table_in_force(void); /* that of an accepted image */
+struct table table_of_image(const uint8_t *image, size_t len); /* that of an accepted image */
+struct table table_in_force(void);
 void put_pair(size_t k, int from, int to);
 void add_pair(int from, int to);
 int from_of(size_t k);

@@ -181,22 +181,8 @@ static struct table table_of(uint32_t jobs, const char *text)
 static struct table renumbered(const struct table *t, const uint8_t *number)
 {
     struct table u = table_letters(JOBS, JOBS);
-    for (const uint8_t *r = t->bytes; r < t->bytes + rule_bytes(t); r += 8) {
-        uint8_t row[4] = { 0 };
-        for (int k = 0; k < r[2]; k++)
-            row[k] = number[r[3 + k]];
-        add_rule(&u, number[r[0]], move_of(r), r[2], row[0], row[1], row[2], row[3]);
-    }
+    add_renumbered(&u, t, number);
     return u;
-}
-
-static void random_numbers(uint8_t *number)
-{
-    for (uint32_t i = 0; i < JOBS; i++) {
-        uint32_t k = random_below(i + 1);
-        number[i] = number[k];
-        number[k] = (uint8_t)i;
-    }
 }
 
 /* The table as it is, and a few times with its rules in another order, with rules again, and with other numbers for its jobs. */
@@ -209,7 +195,7 @@ static void in_many_ways(const struct table *t, const uint8_t *plan, size_t n, i
         struct table u = shuffled(t, way % 2 == 0 ? 0 : 3 * t->rules);
         use(&u);
         CHECK_EQ(quick_answer(plan, n), want);
-        random_numbers(number);
+        random_numbers(number, JOBS);
         for (size_t i = 0; i < n; i++)
             other_plan[i] = number[plan[i]];
         u = renumbered(&u, number);

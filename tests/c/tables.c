@@ -171,6 +171,25 @@ struct table shuffled(const struct table *t, size_t rules)
     return other;
 }
 
+void add_renumbered(struct table *other, const struct table *t, const uint8_t *number)
+{
+    for (const uint8_t *r = t->bytes; r < t->bytes + rule_bytes(t); r += 8) {
+        uint8_t row[4] = { 0 };
+        for (int k = 0; k < r[2]; k++)
+            row[k] = number[r[3 + k]];
+        add_rule(other, number[r[0]], move_of(r), r[2], row[0], row[1], row[2], row[3]);
+    }
+}
+
+void random_numbers(uint8_t *number, uint32_t jobs)
+{
+    for (uint32_t i = 0; i < jobs; i++) {
+        uint32_t k = random_below(i + 1);
+        number[i] = number[k];
+        number[k] = (uint8_t)i;
+    }
+}
+
 /* ---- random tables and plans */
 
 static const int moves[MOVES] = { 0, 255, 256, 65535, 'a', 'a' + 256, 'b', 'a' + 512 };
@@ -218,6 +237,19 @@ size_t random_plan(uint8_t *plan, uint32_t jobs, uint32_t longest)
     return n;
 }
 
+size_t all_plans(uint32_t jobs, uint8_t plans[ALL_PLANS][ALL_LONGEST], size_t *lens)
+{
+    size_t count = 1;
+    lens[0] = 0;
+    for (size_t i = 0; i < count; i++)
+        for (uint8_t j = 0; j < jobs && lens[i] < ALL_LONGEST && count < ALL_PLANS; j++) {
+            memcpy(plans[count], plans[i], ALL_LONGEST);
+            plans[count][lens[i]] = j;
+            lens[count++] = lens[i] + 1;
+        }
+    return count;
+}
+
 /* ---- the image and the alike list in force */
 
 uint8_t image[2560], list[4 * (PAIRS + 8)];
@@ -229,14 +261,19 @@ void use(const struct table *t)
     list_len = 0;
 }
 
-struct table table_in_force(void)
+struct table table_of_image(const uint8_t *image, size_t len)
 {
     struct table t = table_new(image[0]);
-    for (const uint8_t *block = image; block < image + image_len; block += 512) {
+    for (const uint8_t *block = image; block < image + len; block += 512) {
         memcpy(t.bytes + 8 * t.rules, block + 2, 8 * block[1]);
         t.rules += block[1];
     }
     return t;
+}
+
+struct table table_in_force(void)
+{
+    return table_of_image(image, image_len);
 }
 
 void put_pair(size_t k, int from, int to)
@@ -348,10 +385,7 @@ int32_t of_two(call_of_two *call, const uint8_t *first, size_t m, const uint8_t 
     struct area space = area_new(space_len);
     int32_t got = call(areas[0].bytes, areas[0].len, areas[1].bytes, areas[1].len, areas[2].bytes, areas[2].len,
                        areas[3].bytes, areas[3].len, space.bytes, space.len);
-    for (int i = 0; i < 4; i++) {
-        CHECK(area_same(&areas[i]));
-        area_free(&areas[i]);
-    }
+    areas_end(areas, 4);
     space_left(&space, got);
     area_free(&space);
     return got;
