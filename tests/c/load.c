@@ -8,15 +8,15 @@
 #include <stdlib.h>
 #include <string.h>
 
-enum { OUT = 8192, TABLES = 7, CALLS = 512, KINDS = 12, THREADS = 8, STACK = 1 << 20 };
+enum { OUT = 8192, TABLES = 7, CALLS = 512, KINDS = 13, THREADS = 8, STACK = 1 << 20 };
 
 static struct table tables[TABLES];
 static uint8_t images[TABLES][2560];
 static size_t image_lens[TABLES];
 
-/* A call with the answer that it gave when it was alone. */
+/* A call with the answer that it gave when it was alone. Its right plan is over the other table, which in calls of one table is that one. */
 struct call {
-    int which, table;
+    int which, table, other;
     uint8_t left[40], right[40], alike[128], log[258];
     size_t left_len, right_len, alike_len, log_len, out_len;
     uint32_t index;
@@ -51,7 +51,9 @@ static int32_t make(const struct call *c, struct areas *a)
     case 9: return gindrazoma_replay_log(image, len, c->alike, c->alike_len, c->left, c->left_len, c->log, c->log_len,
                                          a->space, SPACE + c->index);
     case 10: return gindrazoma_deterministic(image, len, c->alike, c->alike_len);
-    default: return gindrazoma_plan_growth(image, len, c->left, c->left_len);
+    case 11: return gindrazoma_plan_growth(image, len, c->left, c->left_len);
+    default: return gindrazoma_compare_tables(image, len, images[c->other], image_lens[c->other], c->alike, c->alike_len,
+                                              c->left, c->left_len, c->right, c->right_len, a->space, SPACE + c->index);
     }
 }
 
@@ -116,8 +118,13 @@ static void prepare(void)
         struct call *c = &calls[i];
         c->which = i % KINDS;
         c->table = (int)random_below(random_below(4) ? 5 : TABLES);
+        c->other = c->which < KINDS - 1 || random_below(2) ? c->table : (int)random_below(TABLES);
         c->left_len = plan_of_call(c->left, tables[c->table].jobs);
-        c->right_len = plan_of_call(c->right, tables[c->table].jobs);
+        c->right_len = plan_of_call(c->right, tables[c->other].jobs);
+        if (c->other == c->table && random_below(2) == 0) { /* plans that are the same, too */
+            c->right_len = c->left_len;
+            memcpy(c->right, c->left, sizeof c->right);
+        }
         c->alike_len = list_of_call(c->alike);
         c->log_len = log_of_call(c);
         c->index = random_below(8);
@@ -226,7 +233,7 @@ static void stack_under_16_kib(void)
 {
     static const char *const names[KINDS] = { "read_image", "write_image", "plan_norm", "shortest_run", "nth_move", "compare",
                                               "prime_form", "compare_alike", "prime_form_alike", "replay_log", "deterministic",
-                                              "plan_growth" };
+                                              "plan_growth", "compare_tables" };
     size_t most[KINDS] = { 0 }, none;
     if (small_run())
         return; /* valgrind does not let a stack be looked at */
