@@ -148,7 +148,7 @@ build/samples/samples: examples/samples.c
 	@mkdir -p $(@D)
 	$(CC) -std=c11 -pedantic $(WARNINGS) $(CFLAGS) -o $@ $<
 
-check-example: build/examples/pool build/examples/pool-cpp build/examples/crane build/examples/crane-cpp
+check-example: $(foreach name,pool crane ship,build/examples/$(name) build/examples/$(name)-cpp)
 	@tests/outputs.sh $^
 
 check-samples: build/samples/samples $(PLANLOOK)
