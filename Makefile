@@ -32,6 +32,7 @@ STAGES += alike     # gindrazoma_compare_alike, gindrazoma_prime_form_alike
 STAGES += logs      # gindrazoma_replay_log
 STAGES += outcomes  # gindrazoma_deterministic
 STAGES += growth    # gindrazoma_plan_growth
+STAGES += joined    # gindrazoma_compare_tables
 STAGES += whole     # every call of the header together
 STAGES += planlook  # the program, and what is installed
 
@@ -44,6 +45,7 @@ CHECKS_alike    = $(call library-checks,alike)
 CHECKS_logs     = $(call library-checks,logs)
 CHECKS_outcomes = $(call library-checks,outcomes)
 CHECKS_growth   = $(call library-checks,growth)
+CHECKS_joined   = $(call library-checks,joined)
 CHECKS_whole    = symbols names c-load memory-c-load plain example
 CHECKS_planlook = samples rust-look install
 library-checks  = c-$(1) pages-c-$(1) memory-c-$(1) rust-$(1) memory-rust-$(1) wrapper-$(1)
@@ -124,8 +126,8 @@ callgrind: $(ARCHIVE)
 
 soak: $(ARCHIVE)
 	@$(CARGO) build -q --release -p outside
-	@status=0; for program in images norms sameness alike logs outcomes growth; do \
-		env SECONDS=$$(($(SECONDS) / 7)) $(RUST)/$$program || status=1; \
+	@status=0; for program in images norms sameness alike logs outcomes growth joined; do \
+		env SECONDS=$$(($(SECONDS) / 8)) $(RUST)/$$program || status=1; \
 	done; exit $$status
 
 ages: old-archive $(ARCHIVE)
