@@ -7,3 +7,4 @@ pub mod JoinedSteps
 pub mod BetweenTables
 pub mod RenamedTables
 pub mod ReplacedBoth
+pub mod JoinedAnswers

@@ -18,7 +18,7 @@ use Rattle.joined.proofs.JoinedNorms.{joined-good}
 use Rattle.joined.proofs.BetweenTables.{between-approx, right-same}
 
 module _ (f : ℕ → ℕ) (t u : Table) (k : Renames f t u) where
-  over-renamed : (p : List ℕ) → over t p ≡ true → over u (map f p) ≡ true
+  pub over-renamed : (p : List ℕ) → over t p ≡ true → over u (map f p) ≡ true
   over-renamed [] o = over-none u
   over-renamed (j ∷ p) o = over-cons u (f j) (map f p) (k .jobs j (over-head t j p o)) (over-renamed p (over-tail t j p o))
 

@@ -9,6 +9,7 @@ use Rattle.promises.proofs.AlikeLists as alikelists
 use Rattle.promises.proofs.LogReplays as logreplays
 use Rattle.promises.proofs.Outcomes as outcomes
 use Rattle.promises.proofs.PlanGrowth as plangrowth
+use Rattle.promises.proofs.JoinedTables as joinedtables
 use Rattle.promises.proofs.WorkedCases as workedcases
 
 pub every-promise : EveryPromise
@@ -148,6 +149,27 @@ every-promise = record {
   growth-bounded = plangrowth.growth-bounded;
   growth-of-none = plangrowth.growth-of-none;
   growth-small = plangrowth.growth-small;
+  fifteen-exactly = joinedtables.fifteen-exactly;
+  images-own = joinedtables.images-own;
+  joined-accepted = joinedtables.joined-accepted;
+  joined-norms = joinedtables.joined-norms;
+  joined-plans = joinedtables.joined-plans;
+  left-steps = joinedtables.left-steps;
+  right-steps = joinedtables.right-steps;
+  left-same = joinedtables.left-same;
+  right-same = joinedtables.right-same;
+  joined-between = joinedtables.joined-between;
+  between-apart-from-all = joinedtables.between-apart-from-all;
+  joined-replaced = joinedtables.joined-replaced;
+  two-copies = joinedtables.two-copies;
+  renamed-table = joinedtables.renamed-table;
+  renamed-same = joinedtables.renamed-same;
+  tables-exchanged = joinedtables.tables-exchanged;
+  tables-compare-tells = joinedtables.tables-compare-tells;
+  tables-compare-between = joinedtables.tables-compare-between;
+  copies-compared = joinedtables.copies-compared;
+  exchanged-compared = joinedtables.exchanged-compared;
+  joined-image-compared = joinedtables.joined-image-compared;
   rows-normed = remainders.rows-normed;
   remainders-normed = remainders.remainders-normed;
   unequal-norms = remainders.unequal-norms;

@@ -1,6 +1,6 @@
 -- EVERY WORKED CASE IS TRUE: one computed proof of the test, and one lemma that turns the test into what the cases mean: what is
 -- computed on the rules of a table is so of the table in the image that is written from them. Assumes nothing.
-use mathlib.Core.Path.{_≡_, refl, sym, ap, _∙_, subst}
+use mathlib.Core.Path.{_≡_, refl, sym, ap, ap₂, _∙_, subst}
 use mathlib.Core.Bool.{true, not, _&&_}
 use mathlib.Core.List.{List, [], _∷_, List·Memᴰ, List·Memᴰ·not-nil, List·Memᴰ·cases-cons}
 use mathlib.Core.Logic.{_↔_, ⊎-elim}
@@ -50,6 +50,9 @@ use Rattle.logs.specs.LogCalls.{plan-and-log, replayed}
 use Rattle.deterministic.specs.Deterministic.{is-choice, choice-with, choice-among, no-choice}
 use Rattle.deterministic.specs.CompleteRuns.{SameRuns, by-each, runs-within, each-rest, ends-within, equal-lists, same-runs-within}
 use Rattle.deterministic.proofs.RunsListed.{same-runs-listed}
+use Rattle.joined.specs.Joined.{renumbered, renumbered-rule, joined, BisimilarBetween}
+use Rattle.joining.specs.JoinedBytes.{tables-refusal}
+use Rattle.two_tables.specs.TableCalls.{images-refusal, joined-refusal, plans-refusal-between, two-tables}
 use Rattle.growth.specs.Growth.{JobCount, GrowthSays}
 use Rattle.growth.specs.Reached.{members-from, set-from, comes-in, widened, widened-by, reached, all-but-last, fronts, grows-at, one-of, grows, growth}
 use Rattle.growth.proofs.GrowthExact.{growth-says}
@@ -57,6 +60,8 @@ use Rattle.promises.specs.WorkedCases.{Worked, image-of, read-back, list
 use Rattle.promises.specs.WorkedCases.{listed-under, under-passes, passes, all-pass, cases, Cases-hold}
 use Rattle.promises.specs.WorkedCases.{Case, refusal-is, byte-is, norms-are, pair-refusal-is, are-same, are-apart, form-is, is-prime, move-is, run-is}
 use Rattle.promises.specs.WorkedCases.{alike-refusal-is, same-under, apart-under, log-refusal-is, replay-is, outcome-is, same-runs-apart, is-finite, is-endless, log-passes, list-passes}
+use Rattle.promises.specs.WorkedCases.{between-refusal-is, same-between, apart-between, between-passes, listed-both}
+use Rattle.promises.proofs.JoinedTables.{answer, answer-between}
 
 -- THE COMPUTED PROOF
 cases-pass : all-pass cases ≡ true
@@ -72,6 +77,7 @@ unfolding all-pass passes has-form plan-passes pair-passes equal-plans same-move
     list-passes one-if is-choice choice-with choice-among no-choice by-each runs-within each-rest ends-within equal-lists same-runs-within
     log-passes log-refusal counted-log log-moves all-low-first numbers-in by-move after-move none-left one-empty replay-from replay
     members-from set-from comes-in widened widened-by reached all-but-last fronts grows-at one-of grows growth
+    between-passes renumbered renumbered-rule joined tables-refusal plans-refusal-between
 cases-pass = refl
 
 module _ (w : Worked) where
@@ -231,6 +237,43 @@ module _ (w : Worked) where
       (one-plan (image-of w) p ≡ 0) × GrowthSays (read-back w) p n
   growth-holds p n e = row-holds p (λ t. growth t p ∷ []) (n ∷ []) e (λ t l. GrowthSays t p (getD l 0 0)) (λ t g o. growth-says t (norms t) g p o)
 
+-- a plan of one table and a plan of another, under an alike list
+module _ (ls : List ℕ) (w v : Worked) (p q : List ℕ) (e : between-passes ls w v p q ≡ true) where
+  between-parts : (writer w ≡ 0) × (writer v ≡ 0) × (tables-refusal (listed w) (listed v) ≡ 0) × (alike-refusal ls ≡ 0)
+      × (plans-refusal-between (listed w) (listed v) p q ≡ 0)
+  unfolding between-passes
+  between-parts =
+      let (a, rest) = neither (writer w) _ (eqb-true _ 0 e) in
+      let (b, more) = neither (writer v) _ rest in
+      let (c, last) = neither (tables-refusal (listed w) (listed v)) _ more in
+      let (d, f) = neither (alike-refusal ls) (plans-refusal-between (listed w) (listed v) p q) last in
+      (a, b, c, d, f)
+
+  left-back : read-back w ≡ listed w
+  unfolding write-refusal
+  left-back = held w (neither (list-refusal (w .jobs) (w .rules)) (table-refusal (listed w)) (between-parts .0) .0)
+
+  right-back : read-back v ≡ listed v
+  unfolding write-refusal
+  right-back = held v (neither (list-refusal (v .jobs) (v .rules)) (table-refusal (listed v)) (between-parts .1) .0)
+
+  between-accepted : two-tables (image-of w) (image-of v) ls p q ≡ 0
+  between-accepted =
+      let (a, b, c, d, f) = between-parts in
+      both-pass (joined-refusal (image-of w) (image-of v) ls) _
+      (both-pass (images-refusal (image-of w) (image-of v)) (alike-refusal ls)
+      (both-pass (image-refusal (image-of w)) _ (table-back (w .jobs) (w .rules) a)
+      (both-pass (image-refusal (image-of v)) _ (table-back (v .jobs) (v .rules) b) (ap₂ tables-refusal left-back right-back ∙ c))) d)
+      (ap₂ (λ (t u : Table). plans-refusal-between t u p q) left-back right-back ∙ f)
+
+  between-told : (same (listed-both ls w v) p (renumbered (w .jobs) q) ≡ true) ↔ BisimilarBetween (alike-table (image-of w) ls) (alike-table (image-of v) ls) p q
+  unfolding table-of
+  between-told =
+      let same-back : answer (image-of w) (image-of v) ls p q ≡ same (listed-both ls w v) p (renumbered (w .jobs) q) =
+      ap₂ (λ (t u : Table). same (replaced (alike-pairs ls) (joined t u)) p (renumbered (t .jobs) q)) left-back right-back in
+      let exact = answer-between (image-of w) (image-of v) ls p q between-accepted in
+      (λ s. exact .0 (same-back ∙ s), λ s. sym same-back ∙ exact .1 s)
+
 form-prime : (t : Table) (j : ℕ) → Form t (j ∷ []) (j ∷ []) → Prime t j
 form-prime t j f = go (f .lowest)
   where
@@ -286,6 +329,16 @@ case-true (is-endless w p n) e =
     let (z, (odd, even, count)) = growth-holds w p (2 * n + 1) e in
     let half : (2 * n + 1) / 2 ≡ n = omega arith in
     (z, subst (JobCount (read-back w) p) half count, odd .0 (omega arith))
+case-true (between-refusal-is ls w v p q f) e = eqb-true (two-tables (image-of w) (image-of v) ls p q) f e
+case-true (same-between ls w v p q) e =
+    let b = same (listed-both ls w v) p (renumbered (w .jobs) q) in
+    let k = and-left (between-passes ls w v p q) b e in
+    (between-accepted ls w v p q k, between-told ls w v p q k .0 (and-right (between-passes ls w v p q) b e))
+case-true (apart-between ls w v p q) e =
+    let b = same (listed-both ls w v) p (renumbered (w .jobs) q) in
+    let k = and-left (between-passes ls w v p q) (not b) e in
+    let no = not-true b (and-right (between-passes ls w v p q) (not b) e) in
+    (between-accepted ls w v p q k, λ x. never-both b (between-told ls w v p q k .1 x) no)
 case-true (move-is w p n bs) e =
     let row : Table → List ℕ = λ t. move-bytes (shown t p) n in
     (both-passed w (check-plan w p row bs e) (plan-passed w p row bs e), row-back w p row bs e)

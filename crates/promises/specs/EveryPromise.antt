@@ -9,6 +9,7 @@ use Rattle.promises.specs.AlikeLists as alikelists
 use Rattle.promises.specs.LogReplays as logreplays
 use Rattle.promises.specs.Outcomes as outcomes
 use Rattle.promises.specs.PlanGrowth as plangrowth
+use Rattle.promises.specs.JoinedTables as joinedtables
 use Rattle.promises.specs.WorkedCases as workedcases
 
 pub record EveryPromise : Type 1 where
@@ -161,6 +162,28 @@ pub record EveryPromise : Type 1 where
   pub growth-bounded : plangrowth.Growth-bounded
   pub growth-of-none : plangrowth.Growth-of-none
   pub growth-small : plangrowth.Growth-small
+  -- PLANS OF TWO TABLES
+  pub fifteen-exactly : joinedtables.Fifteen-exactly
+  pub images-own : joinedtables.Images-own
+  pub joined-accepted : joinedtables.Joined-accepted
+  pub joined-norms : joinedtables.Joined-norms
+  pub joined-plans : joinedtables.Joined-plans
+  pub left-steps : joinedtables.Left-steps
+  pub right-steps : joinedtables.Right-steps
+  pub left-same : joinedtables.Left-same
+  pub right-same : joinedtables.Right-same
+  pub joined-between : joinedtables.Joined-between
+  pub between-apart-from-all : joinedtables.Between-apart-from-all
+  pub joined-replaced : joinedtables.Joined-replaced
+  pub two-copies : joinedtables.Two-copies
+  pub renamed-table : joinedtables.Renamed-table
+  pub renamed-same : joinedtables.Renamed-same
+  pub tables-exchanged : joinedtables.Tables-exchanged
+  pub tables-compare-tells : joinedtables.Tables-compare-tells
+  pub tables-compare-between : joinedtables.Tables-compare-between
+  pub copies-compared : joinedtables.Copies-compared
+  pub exchanged-compared : joinedtables.Exchanged-compared
+  pub joined-image-compared : joinedtables.Joined-image-compared
   -- THE NORMS THAT THE ROUNDS LOOK UP
   pub rows-normed : remainders.Rows-normed
   pub remainders-normed : remainders.Remainders-normed

@@ -5,6 +5,7 @@ pub mod AlikeLists
 pub mod LogReplays
 pub mod Outcomes
 pub mod PlanGrowth
+pub mod JoinedTables
 pub mod BothAges
 pub mod Remainders
 pub mod FirstRuns

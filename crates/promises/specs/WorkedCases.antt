@@ -1,5 +1,5 @@
 -- The worked tables of document 01 marked P, two of them from 000, one whose moves need two bytes, one with a choice written again and again, and
--- one with several shortest runs, in two orders; alike lists, logs, choices of outcome, and growth: one list of cases, what
+-- one with several shortest runs, in two orders; alike lists, logs, choices of outcome, growth, and plans of two tables: one list of cases, what
 -- each means, and one test over them.
 -- The test computes on the rules of a table; the meaning is of the image that is written from them. Assumes nothing: these are
 -- definitions.
@@ -32,6 +32,9 @@ use Rattle.log_moves.specs.Logs.{counted-log, log-refusal}
 use Rattle.logs.specs.LogCalls.{plan-and-log, replayed}
 use Rattle.deterministic.specs.Deterministic.{no-choice}
 use Rattle.deterministic.specs.CompleteRuns.{SameRuns, same-runs-within}
+use Rattle.joined.specs.Joined.{renumbered, joined, BisimilarBetween}
+use Rattle.joining.specs.JoinedBytes.{tables-refusal}
+use Rattle.two_tables.specs.TableCalls.{plans-refusal-between, two-tables}
 use Rattle.growth.specs.Growth.{Finite, Endless, JobCount}
 use Rattle.growth.specs.Reached.{growth}
 
@@ -79,6 +82,10 @@ pub data Case : Type 0 where
   -- a plan that is finite or endless, and how many jobs it can reach
   is-finite : (w : Worked) (plan : List ℕ) (jobs : ℕ) → Case
   is-endless : (w : Worked) (plan : List ℕ) (jobs : ℕ) → Case
+  -- what a plan of one table and a plan of another are refused by, and two that are the same or apart under an alike list
+  between-refusal-is : (list : List ℕ) (w v : Worked) (left right : List ℕ) (refusal : ℕ) → Case
+  same-between : (list : List ℕ) (w v : Worked) (left right : List ℕ) → Case
+  apart-between : (list : List ℕ) (w v : Worked) (left right : List ℕ) → Case
 
 -- a job of norm 0 has no run to its end
 abbrev pub HasNorms : Table → (jobs : ℕ) → (by-job : List ℕ) → Type 0
@@ -107,6 +114,12 @@ Means (same-runs-apart w n p q) =
     (two-plans (image-of w) p q ≡ 0) × SameRuns (read-back w) p q × (Bisimilar (read-back w) p q → ⊥)
 Means (is-finite w p n) = (one-plan (image-of w) p ≡ 0) × JobCount (read-back w) p n × Finite (read-back w) p
 Means (is-endless w p n) = (one-plan (image-of w) p ≡ 0) × JobCount (read-back w) p n × Endless (read-back w) p
+Means (between-refusal-is ls w v p q f) = two-tables (image-of w) (image-of v) ls p q ≡ f
+Means (same-between ls w v p q) =
+    (two-tables (image-of w) (image-of v) ls p q ≡ 0) × BisimilarBetween (alike-table (image-of w) ls) (alike-table (image-of v) ls) p q
+Means (apart-between ls w v p q) =
+    (two-tables (image-of w) (image-of v) ls p q ≡ 0)
+    × (BisimilarBetween (alike-table (image-of w) ls) (alike-table (image-of v) ls) p q → ⊥)
 
 -- THE TEST
 -- no refusal meets the list and the plans
@@ -131,6 +144,15 @@ log-passes ls w p g =
 unfoldable pub list-passes : (list : List ℕ) → (w : Worked) → Bool
 list-passes ls w = eqb (or-else (write-refusal (w .jobs) (w .rules)) (alike-refusal ls)) 0
 
+-- no refusal meets the two lists of rules, the tables together, the alike list and the plans
+unfoldable pub between-passes : (list : List ℕ) → (w v : Worked) → (p q : List ℕ) → Bool
+between-passes ls w v p q =
+    eqb (or-else (write-refusal (w .jobs) (w .rules)) (or-else (write-refusal (v .jobs) (v .rules)) (or-else (tables-refusal (listed w) (listed v))
+    (or-else (alike-refusal ls) (plans-refusal-between (listed w) (listed v) p q))))) 0
+
+abbrev pub listed-both : (list : List ℕ) → (w v : Worked) → Table
+listed-both ls w v = replaced (alike-pairs ls) (joined (listed w) (listed v))
+
 unfoldable pub has-form : (w : Worked) → (p f : List ℕ) → Bool
 has-form w p f = plan-passes w p && equal-plans (prime-form (listed w) p) f
 
@@ -154,6 +176,9 @@ passes (outcome-is ls w n) = list-passes ls w && eqb (one-if (no-choice (listed-
 passes (same-runs-apart w n p q) = (pair-passes w p q && not (same (listed w) p q)) && same-runs-within (listed w) n p q
 passes (is-finite w p n) = plan-passes w p && equal-plans (growth (listed w) p ∷ []) ((2 * n) ∷ [])
 passes (is-endless w p n) = plan-passes w p && equal-plans (growth (listed w) p ∷ []) ((2 * n + 1) ∷ [])
+passes (between-refusal-is ls w v p q f) = eqb (two-tables (image-of w) (image-of v) ls p q) f
+passes (same-between ls w v p q) = between-passes ls w v p q && same (listed-both ls w v) p (renumbered (w .jobs) q)
+passes (apart-between ls w v p q) = between-passes ls w v p q && not (same (listed-both ls w v) p (renumbered (w .jobs) q))
 
 unfoldable pub all-pass : List Case → Bool
 all-pass [] = true
@@ -244,6 +269,16 @@ back-at-last = record { jobs = 2; rules = to-two 0 97 1 0 ++ to-none 0 98 ++ to-
 abbrev pub round-by-two : Worked
 round-by-two = record { jobs = 4; rules = to-one 0 97 1 ++ to-none 0 98 ++ to-two 1 97 0 2 ++ to-none 2 98 ++ to-two 3 97 2 2 }
 
+-- T with its jobs numbered from the other end; and S1 and S2 in tables of their own
+abbrev pub table-t-renumbered : Worked
+table-t-renumbered = record { jobs = 4; rules = to-one 0 98 3 ++ to-one 1 97 2 ++ to-one 2 97 3 ++ to-none 3 97 }
+
+abbrev pub choice-after : Worked
+choice-after = record { jobs = 2; rules = to-one 0 97 1 ++ to-none 1 98 ++ to-none 1 99 }
+
+abbrev pub choice-before : Worked
+choice-before = record { jobs = 3; rules = to-one 0 97 1 ++ to-one 0 97 2 ++ to-none 1 98 ++ to-none 2 99 }
+
 -- a pair of an alike list, of moves below 256
 abbrev pub pair : (from to : ℕ) → List ℕ
 pair a b = a ∷ 0 ∷ b ∷ 0 ∷ []
@@ -298,7 +333,13 @@ cases =
     is-finite table-t [] 0 ∷ is-finite table-t (2 ∷ 3 ∷ []) 4 ∷ is-finite table-t (1 ∷ 1 ∷ []) 2 ∷ is-finite back-or-done (0 ∷ []) 1 ∷
     is-endless growing (0 ∷ []) 3 ∷ is-endless growing (2 ∷ 1 ∷ []) 2 ∷ is-finite growing (2 ∷ 2 ∷ []) 1 ∷
     is-finite back-at-last (0 ∷ 1 ∷ []) 2 ∷ is-endless round-by-two (0 ∷ []) 3 ∷ is-endless round-by-two (3 ∷ 1 ∷ []) 4 ∷
-    is-finite round-by-two (3 ∷ []) 2 ∷ []
+    is-finite round-by-two (3 ∷ []) 2 ∷
+    same-between [] table-t table-t (2 ∷ 3 ∷ []) (0 ∷ 1 ∷ 3 ∷ []) ∷ apart-between [] table-t table-t (3 ∷ 0 ∷ []) (0 ∷ 3 ∷ []) ∷
+    same-between [] table-t table-t-renumbered (2 ∷ 3 ∷ []) (1 ∷ 0 ∷ []) ∷ apart-between [] table-t table-t-renumbered (2 ∷ []) (2 ∷ []) ∷
+    apart-between [] choice-after choice-before (0 ∷ []) (0 ∷ []) ∷ same-between (pair 99 98) choice-after choice-before (0 ∷ []) (0 ∷ []) ∷
+    apart-between [] choice-before larger-moves (1 ∷ []) (1 ∷ []) ∷ same-between (pair 98 232) choice-before larger-moves (1 ∷ []) (1 ∷ []) ∷
+    same-between [] growing choice-after [] [] ∷ between-refusal-is [] table-t choice-after (3 ∷ []) (2 ∷ []) 8 ∷
+    between-refusal-is [] choice-after table-t (2 ∷ []) (3 ∷ []) 8 ∷ between-refusal-is [] table-t back-to-itself (4 ∷ []) [] 6 ∷ []
 
 -- EVERY CASE IS TRUE
 unfoldable pub Cases-hold : Type 0
