@@ -1,10 +1,8 @@
 //! Tables in which rules are written again, or differ in one thing only from another rule.
 use crate::rng::Rng;
-use crate::shapes::{Made, SHAPES};
+use crate::shapes::{Made, RULES_MAX, SHAPES};
 use crate::table::{Rule, Table};
 use std::collections::BTreeSet;
-
-const RULES_MAX: usize = 252;
 
 /// A table of any shape with rules written again: it means what it meant.
 pub fn repeated(rng: &mut Rng) -> Made {

@@ -3,7 +3,12 @@ use crate::rng::Rng;
 use crate::table::{norm, rule, Plan, Rule, Table};
 use std::collections::{BTreeSet, HashSet};
 
-/// A table with what its construction knows: the row of base jobs that each job stands for.
+/// The most jobs and rules of a table.
+pub const JOBS_MAX: usize = 24;
+pub const RULES_MAX: usize = 252;
+
+/// A table with what its construction knows: the row of base jobs that each job stands for. Base jobs keep the numbers that they had before
+/// the jobs of the table were renumbered, so that two tables by the same base rules have rows of the same base jobs.
 pub struct Made {
     pub table: Table,
     pub norms: Vec<u64>,
@@ -50,19 +55,28 @@ pub const SHAPES: [Shape; 10] = [
 impl Made {
     /// A table of a shape whose image is accepted.
     pub fn new(shape: Shape, rng: &mut Rng) -> Made {
+        Made::within(shape, rng, JOBS_MAX)
+    }
+
+    /// The same with at most so many jobs, and a full one with as many rules for each; chains need two jobs.
+    pub fn within(shape: Shape, rng: &mut Rng, most: usize) -> Made {
+        let up_to = |from: usize, to: usize| (from.min(most), to.min(most));
         loop {
             let made = match shape {
-                Shape::Tiny => random_table(rng, 5, 2, 3, 3),
-                Shape::Regular => random_table(rng, 9, 2, 3, 1),
-                Shape::OneMove => random_table(rng, 8, 1, 3, 4),
-                Shape::Wide => random_table(rng, 24, ANY, 10, 4),
-                Shape::Equations => equations(rng, Sizes { base: (1, 4), jobs: (4, 16), rules: 3, fill: 0, word: 40 }),
-                Shape::Light => equations(rng, Sizes { base: (4, 8), jobs: (24, 24), rules: 2, fill: 0, word: 40 }),
-                Shape::Full => equations(rng, Sizes { base: (2, 5), jobs: (24, 24), rules: 4, fill: 252, word: 40 }),
-                Shape::Long => equations(rng, Sizes { base: (1, 2), jobs: (8, 24), rules: 2, fill: 0, word: 512 }),
-                Shape::Near => equations(rng, Sizes { base: (1, 4), jobs: (4, 16), rules: 3, fill: 0, word: 10 })
+                Shape::Tiny => random_table(rng, most.min(5), 2, 3, 3),
+                Shape::Regular => random_table(rng, most.min(9), 2, 3, 1),
+                Shape::OneMove => random_table(rng, most.min(8), 1, 3, 4),
+                Shape::Wide => random_table(rng, most, ANY, 10, 4),
+                Shape::Equations => equations(rng, Sizes { base: up_to(1, 4), jobs: up_to(4, 16), rules: 3, fill: 0, word: 40 }),
+                Shape::Light => equations(rng, Sizes { base: up_to(4, 8), jobs: (most, most), rules: 2, fill: 0, word: 40 }),
+                Shape::Full => {
+                    let fill = RULES_MAX * most / JOBS_MAX;
+                    equations(rng, Sizes { base: up_to(2, 5), jobs: (most, most), rules: 4, fill, word: 40 })
+                }
+                Shape::Long => equations(rng, Sizes { base: up_to(1, 2), jobs: up_to(8, 24), rules: 2, fill: 0, word: 512 }),
+                Shape::Near => equations(rng, Sizes { base: up_to(1, 4), jobs: up_to(4, 16), rules: 3, fill: 0, word: 10 })
                     .and_then(|m| one_rule_changed(rng, m)),
-                Shape::Chains => chains(rng),
+                Shape::Chains => chains(rng, most / 2),
             };
             if let Some(mut made) = made {
                 change_moves(rng, &mut made.table);
@@ -92,7 +106,7 @@ impl Made {
             let (a, after) = rng.pick(&ways);
             all.push(rule(j as u8, *a, after));
         }
-        if all.len() > 252 {
+        if all.len() > RULES_MAX {
             return None;
         }
         let table = finished(rng, Table { jobs: words.len(), rules: all });
@@ -116,13 +130,30 @@ impl Made {
 
     fn with_words(table: Table, words: Vec<Plan>) -> Option<Made> {
         let norms = table.finite_norms()?;
-        let small = norms.iter().all(|&n| n <= 512) && (1..=252).contains(&table.rules.len());
+        let small = norms.iter().all(|&n| n <= 512) && (1..=RULES_MAX).contains(&table.rules.len());
         small.then_some(Made { table, norms, words })
     }
 
     /// The same with moves replaced by a list of pairs: rows that stood for one another still do.
     pub fn replaced(&self, pairs: &[(u16, u16)]) -> Made {
         Made { table: self.table.replaced(pairs), norms: self.norms.clone(), words: self.words.clone() }
+    }
+
+    /// Another table of as many jobs, each with the row that it has here; None if its image is not accepted.
+    pub fn with_table(&self, table: Table) -> Option<Made> {
+        Made::with_words(table, self.words.clone())
+    }
+
+    /// A copy with other numbers for its jobs and with its rules in another order.
+    pub fn renamed(&self, rng: &mut Rng) -> Made {
+        let mut table = self.table.clone();
+        rng.shuffle(&mut table.rules);
+        renumbered(rng, table, self.words.clone()).expect("norms of a copy")
+    }
+
+    /// The joined table, in which each job keeps its row; None if the two have too many rules.
+    pub fn joined(&self, right: &Made) -> Option<Made> {
+        Made::with_words(self.table.joined(&right.table), [&self.words[..], &right.words].concat())
     }
 
     pub fn norm(&self, plan: &[u8]) -> u64 {
@@ -171,8 +202,13 @@ impl Made {
 
     /// Another plan that stands for the same base jobs, so that the two are the same.
     pub fn rewritten(&self, rng: &mut Rng, plan: &[u8]) -> Plan {
+        self.rewritten_over(rng, self, plan)
+    }
+
+    /// The same over another table, in which each base job has a job.
+    pub fn rewritten_over(&self, rng: &mut Rng, other: &Made, plan: &[u8]) -> Plan {
         let word: Plan = plan.iter().flat_map(|&j| self.words[j as usize].clone()).collect();
-        cover(rng, &self.words, &word, word.len()).unwrap()
+        cover(rng, &other.words, &word, word.len()).unwrap()
     }
 
     /// Other jobs that stand for the same base jobs as a job; None if there are none.
@@ -271,7 +307,7 @@ fn change_moves(rng: &mut Rng, table: &mut Table) {
 pub(crate) fn finished(rng: &mut Rng, table: Table) -> Table {
     let mut rules = table.rules;
     if rng.once_in(3) {
-        for _ in 0..rng.range(1, 3).min(252 - rules.len()) {
+        for _ in 0..rng.range(1, 3).min(RULES_MAX - rules.len()) {
             rules.push(rng.pick(&rules).clone());
         }
     }
@@ -294,20 +330,26 @@ fn equations(rng: &mut Rng, sizes: Sizes) -> Option<Made> {
     let base = rng.range(sizes.base.0, sizes.base.1);
     let jobs = rng.range(sizes.jobs.0, sizes.jobs.1);
     let rules = base_rules(rng, base, sizes.rules);
+    let words = words_of_base(rng, &rules, base, jobs, sizes.word);
+    Made::of_words(rng, &rules, words, sizes.fill)
+}
+
+/// The row of each base job by itself, and further rows of at most so many base jobs, for so many jobs in all.
+pub(crate) fn words_of_base(rng: &mut Rng, rules: &[Rule], base: usize, jobs: usize, longest: usize) -> Vec<Plan> {
     let mut words: Vec<Plan> = (0..base as u8).map(|j| vec![j]).collect();
     while words.len() < jobs {
         let mut word = rng.pick(&words).clone();
-        if sizes.word > 100 && rng.once_in(2) {
+        if longest > 100 && rng.once_in(2) {
             word = words.iter().max_by_key(|w| w.len()).unwrap().clone();
         }
         if !rng.once_in(4) {
             word.extend(rng.pick(&words));
         }
-        if word.len() <= sizes.word && follow(rng, &rules, &words, &word).is_some() {
+        if word.len() <= longest && follow(rng, rules, &words, &word).is_some() {
             words.push(word);
         }
     }
-    Made::of_words(rng, &rules, words, sizes.fill)
+    words
 }
 
 fn base_rules(rng: &mut Rng, base: usize, most: usize) -> Vec<Rule> {
@@ -339,9 +381,9 @@ fn one_rule_changed(rng: &mut Rng, made: Made) -> Option<Made> {
     Made::of_table(table)
 }
 
-/// Two chains: each job goes to the one before it in its chain; the first jobs may differ.
-fn chains(rng: &mut Rng) -> Option<Made> {
-    let len = rng.range(2, 12);
+/// Two chains of at most so many jobs: each job goes to the one before it in its chain; the first jobs may differ.
+fn chains(rng: &mut Rng, longest: usize) -> Option<Made> {
+    let len = rng.range(longest.min(2), longest);
     let widen = rng.once_in(2);
     let mut rules = Vec::new();
     for start in [0, len] {
@@ -403,8 +445,8 @@ pub(crate) fn renumbered(rng: &mut Rng, table: Table, words: Vec<Plan>) -> Optio
     let anew = |plan: &[u8]| -> Plan { plan.iter().map(|&j| number[j as usize]).collect() };
     let rules = table.rules.iter().map(|r| rule(number[r.job as usize], r.action, &anew(&r.after))).collect();
     let mut moved = vec![Vec::new(); words.len()];
-    for (j, word) in words.iter().enumerate() {
-        moved[number[j] as usize] = anew(word);
+    for (j, word) in words.into_iter().enumerate() {
+        moved[number[j] as usize] = word;
     }
     Made::with_words(Table { jobs: table.jobs, rules }, moved)
 }

@@ -60,6 +60,17 @@ impl Table {
         Table { jobs: self.jobs, rules }
     }
 
+    /// The joined table: the jobs of the right one are numbered on from those of this one, and its rules stand behind the others.
+    pub fn joined(&self, right: &Table) -> Table {
+        let behind = right.rules.iter().map(|r| rule(self.numbered_on(&[r.job])[0], r.action, &self.numbered_on(&r.after)));
+        Table { jobs: self.jobs + right.jobs, rules: self.rules.iter().cloned().chain(behind).collect() }
+    }
+
+    /// A plan over the right table of a joined one whose left one this is, as a plan over the joined one.
+    pub fn numbered_on(&self, plan: &[u8]) -> Plan {
+        plan.iter().map(|&job| self.jobs as u8 + job).collect()
+    }
+
     pub fn rules_of(&self, job: u8) -> impl Iterator<Item = &Rule> {
         self.rules.iter().filter(move |r| r.job == job)
     }

@@ -1,11 +1,9 @@
 //! Tables whose jobs have many shortest runs, which differ late or not at all.
 use crate::first_run::first_run;
 use crate::rng::Rng;
-use crate::shapes::{any_move, finished, renumbered, Made};
+use crate::shapes::{any_move, finished, renumbered, Made, RULES_MAX};
 use crate::table::{norm, rule, Plan, Rule, Table};
 use std::collections::BTreeSet;
-
-const RULES_MAX: usize = 252;
 
 /// Jobs each of which has several rules that lower its norm, of few moves, and some that make a lesser move and do not lower it.
 pub fn tied(rng: &mut Rng, jobs_most: usize, norm_most: u64) -> Made {
