@@ -29,6 +29,19 @@ pub fn images_by_refusal() -> Vec<(i32, Vec<u8>)> {
     ]
 }
 
+/// Images by their refusal, of lengths of which the low bits, or all but the lowest, are those of an accepted one: of one job, which makes move 97.
+pub fn images_by_length() -> Vec<(i32, Vec<u8>)> {
+    let longer = [Table::new(1, &[(0, 97, &[])]).image(), vec![0; 131_072]].concat();
+    let refusal = |len| match len {
+        512 => 0,
+        1024 => 4,
+        _ => 2,
+    };
+    [0, 1, 256, 511, 512, 513, 768, 1024, 2560, 65536, 65536 + 512, 65536 + 2048, 131_072 + 512]
+        .map(|len| (refusal(len), longer[..len].to_vec()))
+        .to_vec()
+}
+
 /// A pair for each place of a list: its to-move is 97, and no two from-moves are equal.
 pub fn pair_at(i: usize) -> Pair {
     (1000 + i as u16, 97)

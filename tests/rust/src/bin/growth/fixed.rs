@@ -4,7 +4,7 @@ use gindrazoma::raw::plan_growth;
 use outside::ensure_eq;
 use outside::growth::{by_components, by_plans};
 use outside::harness::Outcome;
-use outside::refused::{images_by_refusal, plans_by_refusal};
+use outside::refused::{images_by_length, images_by_refusal, plans_by_refusal};
 use outside::table::{rule, Plan, Rule, Table};
 
 /// A rule for each job that ends it, and others of one move.
@@ -128,17 +128,10 @@ pub fn norms_of_jobs() -> Outcome {
     Ok(())
 }
 
-/// Lengths of which the low bits, or all but the lowest, are those of an accepted image.
 pub fn lengths_of_images() -> Outcome {
-    let image = Table::new(1, &[(0, 97, &[])]).image();
-    let longer = [&image[..], &[0; 131_072]].concat();
-    for len in [0, 1, 256, 511, 512, 513, 768, 1024, 2560, 65536, 65536 + 512, 65536 + 2048, 131_072 + 512] {
-        let wanted = match len {
-            512 => 2,
-            1024 => -4,
-            _ => -2,
-        };
-        ensure_eq!(plan_growth(&longer[..len], &[0]), wanted, "an image of {len} bytes");
+    for (refusal, image) in images_by_length() {
+        let wanted = if refusal == 0 { 2 } else { -refusal };
+        ensure_eq!(plan_growth(&image, &[0]), wanted, "an image of {} bytes", image.len());
     }
     Ok(())
 }
