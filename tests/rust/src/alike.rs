@@ -102,7 +102,7 @@ fn some_count(rng: &mut Rng) -> usize {
 }
 
 /// A move that is none of some: often one that has a byte of some other move, or both of them exchanged.
-fn other_move(rng: &mut Rng, near: &[u16], none_of: &[u16]) -> u16 {
+pub(crate) fn other_move(rng: &mut Rng, near: &[u16], none_of: &[u16]) -> u16 {
     loop {
         let [low, high] = rng.pick(near).to_le_bytes();
         let action = match rng.below(5) {

@@ -137,12 +137,38 @@ pub fn of_plans_alike(image: &[u8], alike: &[u8], plans: &[&[u8]]) -> u8 {
         return refusal;
     }
     let table = table_of_image(image);
-    if plans.iter().any(|p| p.iter().any(|&j| usize::from(j) >= table.jobs)) {
-        return 8;
+    let each = plans.iter().map(|plan| of_plan(&table, plan));
+    each.filter(|&refusal| refusal != 0).min().unwrap_or(0)
+}
+
+/// 8 and 9 of a plan over a table whose jobs all have norms.
+fn of_plan(table: &Table, plan: &[u8]) -> u8 {
+    match table.finite_norms() {
+        _ if plan.iter().any(|&job| usize::from(job) >= table.jobs) => 8,
+        Some(norms) if norm(&norms, plan) <= 4096 => 0,
+        _ => 9,
     }
-    let norms = table.finite_norms().unwrap();
-    if plans.iter().any(|p| norm(&norms, p) > 4096) {
-        return 9;
+}
+
+/// 2 to 9, 12, 13 and 15 of two images, an alike list and a plan over each image's table; and what is refused, "nothing" for none.
+pub fn of_two_tables(images: [&[u8]; 2], alike: &[u8], plans: [&[u8]; 2]) -> (u8, &'static str) {
+    let [left, right] = images.map(of_image);
+    if left != 0 || right != 0 {
+        return if left != 0 { (left, "left image") } else { (right, "right image") };
     }
-    0
+    let tables = images.map(table_of_image);
+    let list = of_alike(alike);
+    let [left, right] = [0, 1].map(|side| of_plan(&tables[side], plans[side]));
+    [
+        (15, "jobs", tables[0].jobs + tables[1].jobs > 24),
+        (15, "rules", tables[0].rules.len() + tables[1].rules.len() > 252),
+        (list, "list", list != 0),
+        (8, "left plan", left == 8),
+        (8, "right plan", right == 8),
+        (9, "left plan", left == 9),
+        (9, "right plan", right == 9),
+    ]
+    .into_iter()
+    .find_map(|(refusal, what, holds)| holds.then_some((refusal, what)))
+    .unwrap_or((0, "nothing"))
 }
