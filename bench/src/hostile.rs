@@ -202,11 +202,24 @@ pub fn long(rng: &mut Rng) -> Made {
     Made::of_words(rng, &two_primes(), long_rows(), 252).expect("a table of long rows")
 }
 
+/// The same with 12 jobs and 126 rules.
+pub fn half_of_long(rng: &mut Rng) -> Made {
+    loop {
+        let made = Made::of_words(rng, &two_primes(), rows_that_end(&[1, 255, 511]), 126).expect("a table of long rows");
+        if made.table.rules.len() == 126 {
+            return made;
+        }
+    }
+}
+
 fn long_rows() -> Vec<Plan> {
+    rows_that_end(&[1, 3, 7, 15, 31, 63, 127, 255, 511, 2, 4, 8, 16, 32, 64])
+}
+
+/// Rows of the first prime up to 255, and so many of it with the second prime at the end.
+fn rows_that_end(many: &[usize]) -> Vec<Plan> {
     let mut words = vec![vec![0], vec![1]];
     words.extend([3, 7, 15, 31, 63, 127, 255].map(|n| vec![0; n]));
-    for n in [1, 3, 7, 15, 31, 63, 127, 255, 511, 2, 4, 8, 16, 32, 64] {
-        words.push([vec![0; n], vec![1]].concat());
-    }
+    words.extend(many.iter().map(|&n| [vec![0; n], vec![1]].concat()));
     words
 }

@@ -32,8 +32,11 @@ fn some_pairs(rng: &mut Rng, made: &Made, count: usize) -> Vec<Pair> {
         .collect()
 }
 
+/// How a table is made.
+pub type Make = fn(&mut Rng) -> Made;
+
 /// A table of 24 jobs that is timed alone: how many primes it has, bisimilar ones counted once, and how it is made.
-pub type SingleTable = (&'static str, RangeInclusive<usize>, fn(&mut Rng) -> Made);
+pub type SingleTable = (&'static str, RangeInclusive<usize>, Make);
 
 pub const SINGLE_TABLES: [SingleTable; 7] = [
     ("40 rules", 5..=12, |rng| Made::of_base(rng, (4, 12), 2, 24, 40)),
@@ -50,17 +53,22 @@ pub fn names_with(further: impl Iterator<Item = &'static str>) -> Vec<&'static s
     SINGLE_TABLES.iter().map(|(name, ..)| *name).chain(further).collect()
 }
 
-/// One of those tables, and so many pairs; from random numbers of its own, so that it can be made alone. Few of its rules are
-/// written twice.
+/// One of those tables, and so many pairs; from random numbers of its own, so that it can be made alone.
 pub fn single_table(seed: u64, index: usize, count: usize) -> Input {
     let (name, primes, make) = &SINGLE_TABLES[index];
-    let rng = &mut Rng::of_iteration(seed, name, 0);
+    let (made, pairs) = with_pairs(&mut Rng::of_iteration(seed, name, 0), primes, *make, count);
+    input(name, &made, pairs)
+}
+
+/// A table with so many primes, few of whose rules are written twice, and so many pairs.
+pub(crate) fn with_pairs(rng: &mut Rng, primes: &RangeInclusive<usize>, make: Make, count: usize) -> (Made, Vec<Pair>) {
     loop {
         let made = make(rng);
         let few_twice = 10 * made.table.different_rules() >= 7 * made.table.rules.len();
         if few_twice && primes.contains(&Second::new(&made.table).primes()) {
-            if let Some(pairs) = Pairs::new(rng, &made) {
-                return input(name, &made, pairs.make(rng, count));
+            let pairs = Pairs::new(rng, &made).map(|pairs| pairs.make(rng, count));
+            if let Some(pairs) = pairs {
+                return (made, pairs);
             }
         }
     }

@@ -5,6 +5,7 @@ pub mod growth;
 mod hostile;
 mod hostile_runs;
 pub mod inputs;
+pub mod joined;
 pub mod logs;
 pub mod outcomes;
 pub mod pairs;

@@ -1,13 +1,14 @@
 //! The plain programs beside the second comparer, the second way to first runs and the replay by all plans that are reached: what the
 //! benchmark measures against answers rightly, and writes moves by the definitions. The library and they on the plans, the alike
 //! lists and the logs that are timed, which are as they shall be. The library on the tables that are asked for a choice of outcome,
-//! and on the plans that are asked whether they grow.
+//! on the plans that are asked whether they grow, and on plans over two tables.
 mod logs;
 
 use bench::alike::{areas, ALIKE, LISTS};
 use bench::calls::{runs, COMPARE, RUN};
 use bench::growth::{growth_input, names as growth_names, GROWTH, GROWTH_TABLES};
 use bench::inputs::{hostile_runs, single_table, Input, SINGLE_TABLES};
+use bench::joined::{self, joined_input, short_plans, HALF, HALVES, JOINED};
 use bench::logs::{self as timed_logs, LOG_TABLES};
 use bench::outcomes::{names, outcome_input, OUTCOME};
 use bench::pairs::{place_of, NEAR, PLAN_NORM};
@@ -16,6 +17,7 @@ use outside::damage::damaged;
 use outside::first_run::{bytes_of, first_run};
 use outside::growth::{by_components, Asked, LARGE};
 use outside::harness::{Outcome, Suite};
+use outside::joined::cut;
 use outside::outcomes::without_choice;
 use outside::refusals::{of_alike, of_plans, table_of_image};
 use outside::refused::any_plan;
@@ -61,6 +63,9 @@ fn main() -> ExitCode {
     }
     for (index, name) in growth_names().into_iter().enumerate() {
         suite.fixed(&format!("growth, {name}"), move || growth(index));
+    }
+    for (index, (name, ..)) in SINGLE_TABLES.iter().enumerate() {
+        suite.fixed(&format!("1,000 pairs over two tables, {name}"), move || two_tables(index));
     }
     suite.finish()
 }
@@ -255,6 +260,38 @@ fn growth(index: usize) -> Outcome {
     }
     for (name, call) in GROWTH {
         ensure_eq!(call(&input.image, &input.pairs[0], &mut []), wanted, "{name}: {plan:?} over {:?}", input.table);
+    }
+    Ok(())
+}
+
+/// The two tables and their pairs are as they shall be, and each program answers rightly, on plans of one job, too.
+fn two_tables(index: usize) -> Outcome {
+    let input = joined_input(1, index, 1000);
+    let second = Second::new(&input.table);
+    second.certify()?;
+    let [left, right] = cut(&input.table, HALF);
+    let sizes = [left.jobs, right.jobs, left.rules.len(), right.rules.len()];
+    let rules = input.table.rules.len() / 2;
+    ensure_eq!(sizes, [HALF, HALF, rules, rules], "the jobs and rules of {}", input.name);
+    ensure!(left.joined(&right) == input.table, "{} is not the joined table of its halves", input.name);
+    ensure!(input.name.starts_with(&format!("{} rules", 2 * rules)), "the rules of {}", input.name);
+    ensure!(HALVES[index].0.contains(&second.primes()), "the primes of {}", input.name);
+    for (i, (p, rights)) in input.pairs.iter().enumerate() {
+        let (right, joined) = rights.split_at(rights.len() / 2);
+        ensure_eq!(left.numbered_on(right), joined, "the right plan of pair {i} over {}", input.name);
+        as_asked(&second, p, joined, place_of(i)).map_err(|fault| format!("{}, pair {i}: {fault}", input.name))?;
+    }
+    right_over_two_tables(&second, &input)?;
+    right_over_two_tables(&second, &short_plans(&input))
+}
+
+fn right_over_two_tables(second: &Second, input: &Input) -> Outcome {
+    let (areas, mut space) = (joined::areas(&input.table), vec![0; plain::WORKSPACE]);
+    for (i, pair) in input.pairs.iter().enumerate() {
+        let same = i32::from(second.same(&pair.0, &pair.1[pair.1.len() / 2..]));
+        for (name, call) in JOINED {
+            ensure_eq!(call(&areas, pair, &mut space), same, "{name} on pair {i} over {}", input.name);
+        }
     }
     Ok(())
 }

@@ -5,6 +5,7 @@ use bench::alike::{areas, ALIKE, LISTS};
 use bench::calls::{runs, Program, COMPARE, NORM, RUN};
 use bench::growth::{growth_input, names as growth_names, GROWTH};
 use bench::inputs::{by_size, hostile, hostile_runs, light_and_full, single_table, Input, Pair, SINGLE_TABLES};
+use bench::joined::{self, joined_input, short_plans, JOINED};
 use bench::logs::{self, log_input, LOG, LOG_TABLES};
 use bench::outcomes::{names as outcome_names, outcome_input, OUTCOME};
 use outside::rng::Rng;
@@ -25,6 +26,9 @@ const LIST_BOUND: f64 = 1.1;
 /// How long it may take to replay a log, in times of the plain program.
 const LOG_BOUND: f64 = 2.0;
 
+/// How long it may take over two tables, in times of the same over the image of the joined one.
+const JOINED_BOUND: f64 = 1.1;
+
 fn main() -> ExitCode {
     let Ok(seed) = std::env::var("SEED").unwrap_or("1".to_string()).parse() else {
         eprintln!("SEED is a number");
@@ -40,12 +44,14 @@ fn main() -> ExitCode {
     let most_of_logs = bench.logs();
     bench.outcomes();
     bench.plan_growth();
+    let most_of_two_tables = bench.two_tables(seed);
     let differ = bench.differ;
     let judged = [
         ("1,000 comparisons over one table take", most, "times as long as in the fastest plain program", BOUND),
         ("shortest runs over tables made to be slow", most_of_runs, "times as in the first", RUN_BOUND),
         ("comparisons under alike lists", most_of_lists, "times as without", LIST_BOUND),
         ("replays of logs", most_of_logs, "times as in the plain program", LOG_BOUND),
+        ("comparisons over two tables", most_of_two_tables, "times as over the joined one", JOINED_BOUND),
     ];
     let lines = judged.map(|(what, most, than, bound)| {
         let holds = if most <= bound { "holds" } else { "does not hold" };
@@ -236,6 +242,34 @@ impl Bench {
             self.differ += usize::from(answers[0] != answers[1]);
             println!("{:<28}{}", input.name, row(average(2000, &GROWTH, std::slice::from_ref(&input))));
         }
+    }
+
+    /// The worst ratio to the time over the image of the joined table.
+    fn two_tables(&mut self, seed: u64) -> f64 {
+        println!("\ncompare over two tables, each of 12 jobs and half of the rules, the right one a renamed copy of the left one, and such");
+        println!("pairs as in the first section, beside compare over the image of the joined table: milliseconds, the ratios");
+        println!("{:<28}{}", "tables", head(&JOINED));
+        let inputs: Vec<Input> = (0..SINGLE_TABLES.len()).map(|i| joined_input(seed, i, 1000)).collect();
+        let short: Vec<Input> = inputs.iter().map(short_plans).collect();
+        let most = inputs.into_iter().map(|input| self.times_over_two_tables(input)).fold(0.0, f64::max);
+        println!("\nthe same with plans of one job: microseconds a call");
+        println!("{:<28}{}", "tables", head(&JOINED));
+        for input in short {
+            self.times_over_two_tables(input);
+        }
+        most
+    }
+
+    /// The ratio to the time over the image of the joined table.
+    fn times_over_two_tables(&mut self, mut input: Input) -> f64 {
+        input.image = joined::areas(&input.table);
+        for pair in &input.pairs {
+            let answers = JOINED.map(|(_, call)| call(&input.image, pair, &mut self.space));
+            self.differ += usize::from(answers != [answers[0]; 3]);
+        }
+        let times = average(15, &JOINED, std::slice::from_ref(&input));
+        println!("{:<28}{}", input.name, row(times));
+        times[0] / times[1]
     }
 
     /// The library's ratio to the plain program, without a list and under one.
