@@ -118,7 +118,7 @@ bench: $(ARCHIVE)
 	@build/cargo/timing/bench
 
 # the norm alone: make callgrind COUNTED=norm-calls
-COUNTED = norm-calls move-calls run-calls short-run-calls compare-calls alike-calls log-calls outcome-calls growth-calls
+COUNTED = norm-calls move-calls run-calls short-run-calls compare-calls alike-calls log-calls outcome-calls growth-calls joined-calls
 
 callgrind: $(ARCHIVE)
 	@$(CARGO) build -q --profile timing -p bench $(addprefix --bin ,$(COUNTED))

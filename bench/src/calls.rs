@@ -55,7 +55,7 @@ pub struct Inputs {
 }
 
 /// Every kind of pair is among so many.
-const PAIRS: usize = 12;
+pub const PAIRS: usize = 12;
 
 impl Inputs {
     /// The tables that are timed alone.
