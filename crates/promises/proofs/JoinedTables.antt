@@ -41,7 +41,8 @@ use Rattle.joined.proofs.JoinedAnswers as answers
 use Rattle.joining.specs.JoinedBytes.{tables-refusal}
 use Rattle.joining.proofs.JoinedLists.{own-rules}
 use Rattle.sameness.specs.SamenessCalls.{ComparedAlike}
-use Rattle.two_tables.specs.TableCalls.{images-refusal, joined-refusal, joined-table, plans-refusal-between, two-tables, ComparedTables}
+use Rattle.joined_plans.specs.PlansOfTwo.{plans-refusal-between}
+use Rattle.two_tables.specs.TableCalls.{images-refusal, joined-refusal, joined-table, two-tables, ComparedTables}
 use Rattle.promises.specs.JoinedTables as promised
 use Rattle.promises.specs.AlikeLists as alikelists
 use Rattle.promises.proofs.AlikeLists.{replaced-refusals, accepted}

@@ -52,7 +52,8 @@ use Rattle.deterministic.specs.CompleteRuns.{SameRuns, by-each, runs-within, ea
 use Rattle.deterministic.proofs.RunsListed.{same-runs-listed}
 use Rattle.joined.specs.Joined.{renumbered, renumbered-rule, joined, BisimilarBetween}
 use Rattle.joining.specs.JoinedBytes.{tables-refusal}
-use Rattle.two_tables.specs.TableCalls.{images-refusal, joined-refusal, plans-refusal-between, two-tables}
+use Rattle.joined_plans.specs.PlansOfTwo.{plans-refusal-between}
+use Rattle.two_tables.specs.TableCalls.{images-refusal, joined-refusal, two-tables}
 use Rattle.growth.specs.Growth.{JobCount, GrowthSays}
 use Rattle.growth.specs.Reached.{members-from, set-from, comes-in, widened, widened-by, reached, all-but-last, fronts, grows-at, one-of, grows, growth}
 use Rattle.growth.proofs.GrowthExact.{growth-says}

@@ -34,7 +34,8 @@ use Rattle.deterministic.specs.Deterministic.{no-choice}
 use Rattle.deterministic.specs.CompleteRuns.{SameRuns, same-runs-within}
 use Rattle.joined.specs.Joined.{renumbered, joined, BisimilarBetween}
 use Rattle.joining.specs.JoinedBytes.{tables-refusal}
-use Rattle.two_tables.specs.TableCalls.{plans-refusal-between, two-tables}
+use Rattle.joined_plans.specs.PlansOfTwo.{plans-refusal-between}
+use Rattle.two_tables.specs.TableCalls.{two-tables}
 use Rattle.growth.specs.Growth.{Finite, Endless, JobCount}
 use Rattle.growth.specs.Reached.{growth}
 

@@ -82,6 +82,10 @@ module _ {f : ℕ} {t : Table} {refusal jobs end : ℕ} {rules ns : List ℕ} (l
       let e : length rs ≡ end = length-take end rules ∙ omega (arith, l .inside, l .size) in
       ap (λ (n : ℕ). n / 8) (sym e) ∙ sym (length-rules-in (length rs / 8) rs) ∙ ap (λ (x : Table). length (x .rules)) (l .holds z .is)
 
+-- and the bytes in which its rules stand
+pub held-inside : {f : ℕ} {t : Table} {refusal jobs end : ℕ} {rules ns : List ℕ} → Loads f t refusal jobs end rules ns → end ≤ length rules
+held-inside l = omega (arith, l .inside, l .size)
+
 -- A TABLE THAT WAS LOADED: g is what the checks of plans came to, r what the chain of both came to
 module _ {f : ℕ} {t : Table} {refusal jobs end : ℕ} {rules ns : List ℕ} (l : Loads f t refusal jobs end rules ns) where
   module _ (p : List ℕ) {g r : ℕ} (e : g ≡ or-else (jobs-refusal jobs p) (sum-refusal ns p)) (d : r ≡ or-else refusal g) where

@@ -1,21 +1,18 @@
 -- What the call that compares plans of two tables answers and leaves behind, for every input. Assumes nothing: these are definitions.
-use mathlib.Core.Bool.{cond}
 use mathlib.Core.List.{List}
 use mathlib.Core.Path.{_≡_}
 use Prim.Native.Nat.{ℕ}
-use lib.Dec.{eqb}
 use lib.IntN.{ℤ}
 use Rattle.bpa.specs.Plans.{Table}
-use Rattle.bpa.specs.Norms.{norms}
 use Rattle.bpa.specs.Method.{same}
 use Rattle.answer.specs.Refusals.{or-else}
 use Rattle.answer.specs.Answer.{one-if, Gives, with-space, space-after, GivesWithSpace}
-use Rattle.refusal.specs.Refusals.{jobs-refusal, sum-refusal}
 use Rattle.image.specs.Image.{image-refusal, table-in}
 use Rattle.alike.specs.Alike.{replaced}
 use Rattle.alike_list.specs.AlikeLists.{alike-pairs, alike-refusal}
 use Rattle.joined.specs.Joined.{renumbered, joined}
 use Rattle.joining.specs.JoinedBytes.{tables-refusal}
+use Rattle.joined_plans.specs.PlansOfTwo.{plans-refusal-between}
 
 -- TWO TABLES AND A LIST: refusals 2 to 7 of the left image, 2 to 7 of the right one, 15, 12 and 13
 abbrev pub images-refusal : (left right : List ℕ) → ℕ
@@ -27,15 +24,6 @@ joined-refusal bs cs ls = or-else (images-refusal bs cs) (alike-refusal ls)
 -- and their joined table, its moves replaced
 abbrev pub joined-table : (left right alike : List ℕ) → Table
 joined-table bs cs ls = replaced (alike-pairs ls) (joined (table-in bs) (table-in cs))
-
--- REFUSALS 8 AND 9 of two plans, each over its own table: 8 of the left, 8 of the right, 9 of the left, 9 of the right
-unfoldable pub plans-refusal-between : (t u : Table) → (left right : List ℕ) → ℕ
-plans-refusal-between t u p q =
-    or-else (jobs-refusal (t .jobs) p) (or-else (jobs-refusal (u .jobs) q) (or-else (sum-refusal (norms t) p) (sum-refusal (norms u) q)))
-
--- the same by what 8 and 9 of each plan come to
-unfoldable pub eight-first : (left right : ℕ) → ℕ
-eight-first a b = cond (eqb b 8) 8 (or-else a b)
 
 -- COMPARE PLANS OF TWO TABLES: 1 for same, 0 for apart, in the joined table, with the right plan as that numbers its jobs
 abbrev pub two-tables : (left-image right-image alike left right : List ℕ) → ℕ

@@ -7,8 +7,8 @@ use Prim.Native.Nat.{ℕ, _+_, _-_, _≤_}
 use native.Mathlib.Nat.{sub-zero}
 use native.Mathlib.Omega.{arith}
 use lib.Dec.{ltb}
-use lib.ListN.{length, drop, replicate, length-replicate, length-append, length-drop}
-use lib.Seq.{drop-at, drop-drop}
+use lib.ListN.{length, take, drop, replicate, length-replicate, length-append, length-drop}
+use lib.Seq.{length-take-le, drop-at, drop-drop}
 use borrow.Author.Tests.{ltb-false, le-ltb}
 use Rattle.area.specs.Areas.{put}
 use Rattle.area.proofs.PutLaws.{put-front}
@@ -32,6 +32,18 @@ long-passes s h = ap (λ (b : Bool). cond b 1 0) (le-ltb (length s) 65536 h)
 long-after : (s : List ℕ) → 65536 ≤ length s → space-after s ≡ replicate space-size 0 ++ drop space-size s
 unfolding space-after space-size
 long-after s h = ap (λ (b : Bool). cond b s (replicate 65536 0 ++ drop 65536 s)) (le-ltb (length s) 65536 h)
+
+-- the front of one that is long enough, as a call lends it to what does the work. Said here, and not where it is lent: arithmetic reads all that is
+-- known at a place, and at the end of a call that is much
+pub from-front : (n : ℕ) → 0 ≤ n
+from-front n = omega arith
+
+module _ (n : ℕ) (s : List ℕ) (few : n ≤ 65536) (h : 65536 ≤ length s) where
+  pub front-inside : n ≤ length s
+  front-inside = omega (arith, few, h)
+
+  pub front-size : length (take n s) ≡ n
+  front-size = length-take-le n s front-inside
 
 -- refusal 1 by how much may be used
 module _ (s : List ℕ) where

@@ -3,9 +3,9 @@ use mathlib.Core.Path.{_≡_, refl, sym, ap, ap₂, _∙_}
 use mathlib.Core.List.{List}
 use Prim.Native.Nat.{ℕ, _≤_}
 use native.Mathlib.Omega.{arith}
-use borrow.Author.Needs.{needs}
 use lib.IntN.{pos}
-use lib.ListN.{length, take, length-take}
+use lib.ListN.{length, take}
+use lib.Seq.{length-front}
 use mir.Syntax.{w32}
 use mir.ValLaws.{toZ-ofZ}
 use Rattle.answer.specs.Refusals.{or-else}
@@ -14,14 +14,18 @@ use Rattle.answer.proofs.Answers.{gives-refused, gives-done}
 use Rattle.answer.proofs.RefusalChains.{neither}
 use Rattle.alike_list.specs.AlikeTables.{alike-table, listed-refusal}
 use Rattle.table.specs.Tables.{Loads}
-use Rattle.table.proofs.HeldTables.{Ready, plan-chain, plan-ready}
-use Rattle.workspace.proofs.UsablePart.{front-cleared}
+use Rattle.table.proofs.HeldTables.{Ready, held-inside, plan-chain, plan-ready}
+use Rattle.workspace.proofs.UsablePart.{from-front, front-inside, front-size, front-cleared}
 use Rattle.workspace.proofs.WithSpace.{space-chain, space-passed}
 use Rattle.replay.specs.Replay.{replay}
 use Rattle.log_moves.proofs.LogMoves.{log-short}
 use Rattle.logs.specs.LogCalls.{plan-and-log}
 use Rattle.logs.proofs.replay_in.Statement.{statement}
 use Rattle.logs.proofs.replay_in.Tie as tie
+
+-- what does the work has less than a workspace has
+few : 52632 ≤ 65536
+few = omega arith
 
 -- once all checks are made
 module _ (c : tie.After-or-else3) where
@@ -90,14 +94,14 @@ counted-moves-requires : tie.Need-counted-moves-requires
 counted-moves-requires c κs = short (c .before) (c .if1 .left)
 
 part-replay-end : tie.Need-part-replay-end
-part-replay-end c = omega (arith, passed (c .before .before) (c .before .if1 .left) .0)
+part-replay-end c = front-inside 52632 (start (c .before .before) .args .space .now) few (passed (c .before .before) (c .before .if1 .left) .0)
 
 replay-requires : tie.Need-replay-requires
 replay-requires c κs =
     let m = c .before .before .before .before .before .before in
     let e = m .before in
     let k = ready (e .before) (e .if1 .left) in (
-      (simp length-take (omega (arith, passed (e .before) (e .if1 .left) .0)), rw (c .before .rules-of .ensures) (k .good .list), k .within),
+      (front-size 52632 (start (e .before) .args .space .now) few (passed (e .before) (e .if1 .left) .0), rw (c .before .rules-of .ensures) (k .good .list), k .within),
       (m .counted-moves .ensures .size, omega (arith, short (e .before) (e .if1 .left))),
     )
 
@@ -116,31 +120,31 @@ returns-2 c =
     record {
       answer = gives-done (refusal-is o) _ (e .if1 .left)
           (toZ-ofZ w32 (c .result .result) (record { sfits = c .result .ok }) ∙ c .result .ensures ∙ ap pos is);
-      clears = front-cleared (start o .args .space .now) (r .replay .last .0) 52632 (omega arith)
-          (r .replay .kept .0 ∙ simp length-take (omega (arith, long))) long;
+      clears = front-cleared (start o .args .space .now) (r .replay .last .0) 52632 few
+          (r .replay .kept .0 ∙ front-size 52632 (start o .args .space .now) few long) long;
     }
 
 pub replay-in-spec : {M : Type 1} → statement M
 replay-in-spec =
     tie.close
     (tie.spec
-    (λ c κs. search needs)  -- load-requires
+    (λ c κs. tt)  -- load-requires
     (λ c κs. let l = c .before .load .ensures in (l .inside, l .size))  -- replace-requires
-    (λ c κs. search needs)  -- plan-refusal-requires
-    (λ c κs. search needs)  -- or-else-requires
-    (λ c κs. search needs)  -- refusal-requires
-    (λ c κs. search needs)  -- or-else-requires-2
-    (λ c κs. search needs)  -- refusal-requires-2
-    (λ c κs. search needs)  -- or-else-requires-3
-    (λ c κs. search needs)  -- refused-requires
-    (λ c. search needs)  -- same-length
+    (λ c κs. c .before .before .before .before .load .ensures .few)  -- plan-refusal-requires
+    (λ c κs. tt)  -- or-else-requires
+    (λ c κs. tt)  -- refusal-requires
+    (λ c κs. tt)  -- or-else-requires-2
+    (λ c κs. tt)  -- refusal-requires-2
+    (λ c κs. tt)  -- or-else-requires-3
+    (λ c κs. tt)  -- refused-requires
+    (λ c. refl)  -- same-length
     returns
     counted-moves-requires
-    (λ c. search needs)  -- sub-replay
-    (λ c. search needs)  -- part-replay-start
+    (λ c. from-front 52632)  -- sub-replay
+    (λ c. from-front 52632)  -- part-replay-start
     part-replay-end
-    (λ c κs. search needs)  -- rules-of-requires
+    (λ c κs. held-inside (held (c .before .before .before .before .before .before)))  -- rules-of-requires
     replay-requires
     result-requires
-    (λ c. search needs)  -- same-length-2
+    (λ c. let r = c .before .before .before in length-front (start (r .before .before .before .before .before .before .before .before .before) .args .space .now) (r .replay .last .0) 52632 (r .replay .kept .0))  -- same-length-2
     returns-2)

@@ -4,10 +4,10 @@ use mathlib.Core.Bool.{Bool, cond}
 use mathlib.Core.List.{List}
 use Prim.Native.Nat.{ℕ, _+_, _≤_}
 use native.Mathlib.Omega.{arith}
-use borrow.Author.Needs.{needs}
 use lib.Dec.{eqb}
 use lib.IntN.{pos}
-use lib.ListN.{length, take, length-take}
+use lib.ListN.{length, take}
+use lib.Seq.{length-front}
 use mir.Syntax.{w32}
 use mir.ValLaws.{toZ-ofZ}
 use Rattle.answer.specs.Refusals.{or-else}
@@ -20,18 +20,23 @@ use Rattle.bpa.specs.Norms.{sum-of}
 use Rattle.bpa.specs.Method.{same}
 use Rattle.rules.specs.Places.{table-of}
 use Rattle.table.specs.Tables.{Holds, Loads}
-use Rattle.table.proofs.HeldTables.{Ready, held-jobs}
+use Rattle.table.proofs.HeldTables.{Ready, held-jobs, held-inside}
 use Rattle.alike_list.specs.AlikeLists.{alike-refusal}
 use Rattle.joined.specs.Joined.{renumbered, joined}
 use Rattle.joining.specs.JoinedBytes.{Fits, JoinsRules}
 use Rattle.joining.proofs.JoinedLists.{sum-joined}
 use Rattle.joining.proofs.JoinedSources.{fits, joined-loads}
-use Rattle.workspace.proofs.UsablePart.{front-cleared}
+use Rattle.joined_plans.specs.PlansOfTwo.{plans-refusal-between}
+use Rattle.joined_plans.proofs.PlansBetween.{between, left-ready, right-ready}
+use Rattle.workspace.proofs.UsablePart.{from-front, front-inside, front-size, front-cleared}
 use Rattle.workspace.proofs.WithSpace.{space-chain, space-passed}
-use Rattle.two_tables.specs.TableCalls.{images-refusal, joined-refusal, joined-table, plans-refusal-between, two-tables}
-use Rattle.two_tables.proofs.PlansBetween.{between, left-ready, right-ready}
+use Rattle.two_tables.specs.TableCalls.{images-refusal, joined-refusal, joined-table, two-tables}
 use Rattle.two_tables.proofs.compare_in.Statement.{statement}
 use Rattle.two_tables.proofs.compare_in.Tie as tie
+
+-- the engine works in less than a workspace has
+few : 24576 ≤ 65536
+few = omega arith
 
 -- the two tables, and what the checks of both came to
 module _ (c : tie.After-or-else2) where
@@ -166,12 +171,10 @@ module _ (c : tie.After-or-else4) where
 
     small : sum-of (normed .join-norms .result) (renumbered (n normed) q) ≤ 4096
     small =
-        omega (
-          arith,
-          sum-joined (n normed) (loaded given .load .result .norms) (second given .load2 .result .norms) (normed .join-norms .result) (normed .join-norms .ensures) (m normed)
-              (whole .good .list .jobs) q (right-plan .within),
-          right-plan .sum-small,
-        )
+        subst (λ (k : ℕ). k ≤ 4096)
+        (sym (sum-joined (n normed) (loaded given .load .result .norms) (second given .load2 .result .norms) (normed .join-norms .result) (normed .join-norms .ensures) (m normed)
+        (whole .good .list .jobs) q (right-plan .within)))
+        (right-plan .sum-small)
 
 returns : tie.Need-returns
 returns c = record {
@@ -186,7 +189,7 @@ same-joined-requires c κs =
     let d = e .before in
     let z = e .if1 .left in (
       rw (c .before .before .rules-of2 .ensures) (whole d z .good),
-      ((left-plan d z .within, right-plan d z .within), ((right-plan d z .short, small d z), simp length-take (omega (arith, room d z .0)))),
+      ((left-plan d z .within, right-plan d z .within), ((right-plan d z .short, small d z), front-size 24576 (space d) few (room d z .0))),
     )
 
 returns-2 : tie.Need-returns-2
@@ -204,37 +207,37 @@ returns-2 c =
           ∙ ap₂ (λ (t : Table) (k : ℕ). same t (p d) (renumbered k (q d)))
           (ap (table-of (n (normed d) + m (normed d))) (s .before .before .before .rules-of2 .ensures) ∙ whole d z .is)
           (held-jobs (first-loads (given d)) (tables-passed d (none d z .0) .0))));
-      clears = front-cleared (space d) (s .same-joined .last .1 .1 .1 .1 .1 .1 .0) 24576 (omega arith)
-          (s .same-joined .kept .1 .1 .1 .1 .1 .1 .0 ∙ simp length-take (omega (arith, long))) long;
+      clears = front-cleared (space d) (s .same-joined .last .1 .1 .1 .1 .1 .1 .0) 24576 few
+          (s .same-joined .kept .1 .1 .1 .1 .1 .1 .0 ∙ front-size 24576 (space d) few long) long;
     }
 
 pub compare-in-spec : {M : Type 1} → statement M
 compare-in-spec =
     tie.close
     (tie.spec
-    (λ c κs. search needs)  -- load-requires
-    (λ c κs. search needs)  -- load-requires-2
-    (λ c κs. search needs)  -- plan-refusal-requires
-    (λ c κs. search needs)  -- plan-refusal-requires-2
-    (λ c κs. search needs)  -- plans-refusal-requires
-    (λ c κs. search needs)  -- refusal-requires
-    (λ c κs. search needs)  -- or-else-requires
-    (λ c κs. search needs)  -- or-else-requires-2
-    (λ c κs. search needs)  -- rules-of-requires
+    (λ c κs. tt)  -- load-requires
+    (λ c κs. tt)  -- load-requires-2
+    (λ c κs. c .before .before .before .before .load .ensures .few)  -- plan-refusal-requires
+    (λ c κs. c .before .before .before .before .before .load2 .ensures .few)  -- plan-refusal-requires-2
+    (λ c κs. tt)  -- plans-refusal-requires
+    (λ c κs. let k = c .before .before .before .before .before .before .before in let l = k .before in (l .load .ensures .few, (k .load2 .ensures .few, (l .load .ensures .inside, k .load2 .ensures .inside))))  -- refusal-requires
+    (λ c κs. tt)  -- or-else-requires
+    (λ c κs. tt)  -- or-else-requires-2
+    (λ c κs. held-inside (second-loads (c .before .before .before .before)))  -- rules-of-requires
     (λ c κs. rw (c .rules-of .ensures) (rules-fit (c .before .before .before .before .before)))  -- join-rules-requires
     (λ c κs. tt)  -- join-norms-requires
     (λ c κs. let h = held (c .before) in (h .inside, h .size))  -- replace-requires
-    (λ c κs. search needs)  -- refusal-requires-2
-    (λ c κs. search needs)  -- or-else-requires-3
-    (λ c κs. search needs)  -- or-else-requires-4
-    (λ c κs. search needs)  -- refused-requires
-    (λ c. search needs)  -- same-length
+    (λ c κs. tt)  -- refusal-requires-2
+    (λ c κs. tt)  -- or-else-requires-3
+    (λ c κs. tt)  -- or-else-requires-4
+    (λ c κs. tt)  -- refused-requires
+    (λ c. refl)  -- same-length
     returns
-    (λ c κs. let d = c .before .before .before .before in omega (arith, listed-held d .inside, listed-held d .size))  -- rules-of-requires-2
-    (λ c. search needs)  -- sub-same-joined
-    (λ c. search needs)  -- part-same-joined-start
-    (λ c. let e = c .before .before .before .before .before in omega (arith, room (e .before) (e .if1 .left) .0))  -- part-same-joined-end
+    (λ c κs. let d = c .before .before .before .before in held-inside (listed-held d))  -- rules-of-requires-2
+    (λ c. from-front 24576)  -- sub-same-joined
+    (λ c. from-front 24576)  -- part-same-joined-start
+    (λ c. let e = c .before .before .before .before .before in front-inside 24576 (space (e .before)) few (room (e .before) (e .if1 .left) .0))  -- part-same-joined-end
     same-joined-requires
-    (λ c κs. search needs)  -- one-if-requires
-    (λ c. search needs)  -- same-length-2
+    (λ c κs. tt)  -- one-if-requires
+    (λ c. let s = c .before .before .before in length-front (space (s .before .before .before .before .before .before .before .before)) (s .same-joined .last .1 .1 .1 .1 .1 .1 .0) 24576 (s .same-joined .kept .1 .1 .1 .1 .1 .1 .0))  -- same-length-2
     returns-2)

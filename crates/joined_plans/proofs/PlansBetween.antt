@@ -16,7 +16,7 @@ use Rattle.refusal.specs.Refusals.{jobs-refusal, sum-refusal}
 use Rattle.refusal.proofs.PlanRefusals.{array-norm}
 use Rattle.table.specs.Tables.{Loads}
 use Rattle.table.proofs.HeldTables.{Ready, held-jobs, plan-ready}
-use Rattle.two_tables.specs.TableCalls.{plans-refusal-between, eight-first}
+use Rattle.joined_plans.specs.PlansOfTwo.{plans-refusal-between, eight-first}
 
 -- the right plan names a job that is not there, or not
 pub right-eight : (a b : ℕ) → b ≡ 8 → 8 ≡ eight-first a b

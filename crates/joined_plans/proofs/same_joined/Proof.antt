@@ -1,4 +1,4 @@
--- `two_tables::same_joined` meets its contract. Assumes nothing.
+-- `joined_plans::same_joined` meets its contract. Assumes nothing.
 use mathlib.Core.Path.{_≡_, sym, ap, ap₂, subst, _∙_}
 use mathlib.Core.Bool.{true}
 use mathlib.Core.List.{List}
@@ -14,8 +14,8 @@ use Rattle.bpa.proofs.Basics.JobsBelow.{below-more}
 use Rattle.rules.specs.Places.{table-of}
 use Rattle.joined.specs.Joined.{renumbered}
 use Rattle.joined.proofs.RenumberedPlans.{renumbered-length, renumbered-below}
-use Rattle.two_tables.proofs.same_joined.Statement.{statement}
-use Rattle.two_tables.proofs.same_joined.Tie as tie
+use Rattle.joined_plans.proofs.same_joined.Statement.{statement}
+use Rattle.joined_plans.proofs.same_joined.Tie as tie
 
 -- once the plan is renumbered
 module _ (c : tie.After-renumber-plan) where

@@ -1,9 +1,9 @@
--- `two_tables::plans_refusal` meets its contract. Assumes nothing.
+-- `joined_plans::plans_refusal` meets its contract. Assumes nothing.
 use mathlib.Core.Path.{_∙_}
 use borrow.Author.Needs.{needs}
-use Rattle.two_tables.proofs.PlansBetween.{right-eight, not-eight}
-use Rattle.two_tables.proofs.plans_refusal.Statement.{statement}
-use Rattle.two_tables.proofs.plans_refusal.Tie as tie
+use Rattle.joined_plans.proofs.PlansBetween.{right-eight, not-eight}
+use Rattle.joined_plans.proofs.plans_refusal.Statement.{statement}
+use Rattle.joined_plans.proofs.plans_refusal.Tie as tie
 
 pub plans-refusal-spec : {M : Type 1} → statement M
 plans-refusal-spec =

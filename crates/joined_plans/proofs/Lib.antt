@@ -1,0 +1,2 @@
+-- Laws of plans over two tables.
+pub mod PlansBetween

@@ -1,0 +1,2 @@
+-- Plans over two tables.
+pub mod PlansOfTwo

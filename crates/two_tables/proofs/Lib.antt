@@ -1,2 +1,0 @@
--- Laws of the call about two tables.
-pub mod PlansBetween
