@@ -23,7 +23,8 @@ CFLAGS ?= -O2 -g
 CARGO = GINDRAZOMA_LIB=$(abspath $(dir $(ARCHIVE))) cargo
 RUST = build/cargo/release
 
-# What `make test` checks, in order. Each line is a stage of the library: without it, nothing of that stage is built or run.
+# What `make test` checks, in order. Each line is a stage of the library: without it, nothing of that stage is built or run. Stages are checked side
+# by side, once the proofs are through.
 STAGES  = proofs
 STAGES += images    # gindrazoma_read_image, gindrazoma_write_image
 STAGES += norms     # gindrazoma_plan_norm, gindrazoma_nth_move, gindrazoma_shortest_run
@@ -50,13 +51,20 @@ CHECKS_whole    = symbols names c-load memory-c-load plain example
 CHECKS_planlook = samples rust-look install
 library-checks  = c-$(1) pages-c-$(1) memory-c-$(1) rust-$(1) memory-rust-$(1) wrapper-$(1)
 
-.PHONY: all look test bench callgrind soak ages old-archive install clean
+.PHONY: all look test ready bench callgrind soak ages old-archive install clean
 .DELETE_ON_ERROR:
 
 all: $(ARCHIVE) $(PLANLOOK)
 
 test:
-	@tests/run.sh $(foreach stage,$(STAGES),$(CHECKS_$(stage)))
+	@tests/run.sh $(foreach stage,$(STAGES),'$(CHECKS_$(stage))')
+
+# what the stages share, so that no two of them build it at once
+ready: $(ARCHIVE) $(PLANLOOK)
+	@tests/valgrind.sh || true # without it the tests of memory say that they were not run
+	@$(CARGO) build -q --release -p outside
+	@$(CARGO) build -q --release -p bench --bin agree
+	@$(CARGO) test -q --release -p gindrazoma --no-run
 
 # ---- the library and the program, proved and built by rt
 

@@ -1,10 +1,7 @@
 #!/bin/sh
 # memory.sh PROGRAM: a short run of a test program under valgrind, on areas of just their lengths. An invalid read or
 # write, or a use of a byte that nothing wrote, makes it fail.
-if ! command -v valgrind >/dev/null 2>&1; then
-    apt-get install -y valgrind >/dev/null 2>&1
-fi
-if ! command -v valgrind >/dev/null 2>&1; then
+if ! "$(dirname "$0")/valgrind.sh"; then
     echo "valgrind is not on this machine and could not be installed: NOT RUN"
     echo "0 passed, 0 failed"
     exit 0

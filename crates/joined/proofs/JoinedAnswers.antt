@@ -1,6 +1,6 @@
 -- WHAT `same` ANSWERS OVER JOINED TABLES: for two copies as over the one, for exchanged tables the same, for a renamed table as over the other.
 -- Assumes good tables.
-use mathlib.Core.Path.{_≡_, sym, _∙_}
+use mathlib.Core.Path.{_≡_, _∙_}
 use mathlib.Core.Bool.{true}
 use mathlib.Core.List.{List, map}
 use mathlib.Core.Logic.{_↔_}

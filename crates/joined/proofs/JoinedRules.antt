@@ -1,6 +1,6 @@
 -- The rules of a joined table: those of the first for its jobs, and those of the second, renumbered, for the others. Assumes nothing.
-use mathlib.Core.Path.{_≡_, sym, ap, ap₂, _∙_}
-use mathlib.Core.List.{List, _++_, List·Memᴰ, map}
+use mathlib.Core.Path.{_≡_, sym, ap}
+use mathlib.Core.List.{List, List·Memᴰ, map}
 use mathlib.Core.List.{Memᴰ·append-left, Memᴰ·append-right, List·Memᴰ·append-cases, Memᴰ·map, Memᴰ·of-map, Memᴰ·cast}
 use mathlib.Core.Logic.{⊎-elim}
 use Prim.Native.Nat.{ℕ, _+_, _<_}

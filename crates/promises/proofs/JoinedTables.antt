@@ -2,24 +2,23 @@
 use mathlib.Core.Path.{_≡_, refl, sym, ap, ap₂, subst, _∙_}
 use mathlib.Core.Bool.{Bool, true, false, _||_, cond}
 use mathlib.Core.List.{List, _++_, map}
-use mathlib.Core.Logic.{_↔_, _⊎_, inl, inr, ⊎-elim}
+use mathlib.Core.Logic.{_↔_, inl, inr, ⊎-elim}
 use Prim.Native.Nat.{ℕ, zero, suc, _+_, _-_, _≤_, _<_}
 use native.Mathlib.Decide.{decLt}
 use native.Mathlib.Omega.{arith}
 use lib.Dec.{ltb}
-use lib.IntN.{ℤ, pos}
+use lib.IntN.{pos}
 use lib.ListN.{length, getD, List·getD-append}
 use borrow.Author.Tests.{ltb-true, lt-ltb}
 use Rattle.bpa.specs.Plans.{Table, over, Step}
-use Rattle.bpa.specs.Norms.{norms, norm}
+use Rattle.bpa.specs.Norms.{norms}
 use Rattle.bpa.specs.Bisimilar.{Bisimilar}
 use Rattle.bpa.specs.Method.{same}
-use Rattle.bpa.proofs.Basics.Cases.{by-test, or-cases, or-left, or-right, never-both}
+use Rattle.bpa.proofs.Basics.Cases.{or-cases, or-left, or-right, never-both}
 use Rattle.bpa.proofs.Norm.NormStable.{norms-length}
 use Rattle.bpa.proofs.Answers.{equivalent-same, same-exact}
-use Rattle.bpa.proofs.Base.MethodDecides.{equivalent-bisimilar}
 use Rattle.answer.specs.Refusals.{or-else, space-refusal}
-use Rattle.answer.specs.Answer.{signed, one-if, with-space, GivesWithSpace}
+use Rattle.answer.specs.Answer.{signed, one-if, with-space}
 use Rattle.answer.proofs.RefusalChains.{neither, both-pass, then-none, passed-first, refused-first}
 use Rattle.answer.proofs.Results.{result-is}
 use Rattle.refusal.specs.Refusals.{jobs-refusal, sum-refusal, plan-refusal, plans-refusal, Accepted, AcceptedPlan}
@@ -40,7 +39,6 @@ use Rattle.joined.proofs.ReplacedBoth.{replaced-joined, own-replaced}
 use Rattle.joined.proofs.JoinedAnswers as answers
 use Rattle.joining.specs.JoinedBytes.{tables-refusal}
 use Rattle.joining.proofs.JoinedLists.{own-rules}
-use Rattle.sameness.specs.SamenessCalls.{ComparedAlike}
 use Rattle.joined_plans.specs.PlansOfTwo.{plans-refusal-between}
 use Rattle.two_tables.specs.TableCalls.{images-refusal, joined-refusal, joined-table, two-tables, ComparedTables}
 use Rattle.promises.specs.JoinedTables as promised
