@@ -88,7 +88,7 @@ module _ (n m : ℕ) (rs os : List ℕ) (g : GoodList n rs) (h : GoodList m os) 
   unfolding rule-count
   both-count = omega (arith, both-length)
 
-  joined-list : GoodList (n + m) both
+  pub joined-list : GoodList (n + m) both
   joined-list = record {
     whole = both-length ∙ ap (λ (i : ℕ). 8 * i) (sym both-count);
     some = omega (arith, both-count, g .some);

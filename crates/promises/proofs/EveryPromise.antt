@@ -169,6 +169,7 @@ every-promise = record {
   tables-compare-between = joinedtables.tables-compare-between;
   copies-compared = joinedtables.copies-compared;
   exchanged-compared = joinedtables.exchanged-compared;
+  joined-image = joinedtables.joined-image;
   joined-image-compared = joinedtables.joined-image-compared;
   rows-normed = remainders.rows-normed;
   remainders-normed = remainders.remainders-normed;

@@ -45,6 +45,7 @@ use Rattle.promises.specs.JoinedTables as promised
 use Rattle.promises.specs.AlikeLists as alikelists
 use Rattle.promises.proofs.AlikeLists.{replaced-refusals, accepted}
 use Rattle.promises.proofs.SourceCalls.{told-exactly}
+use Rattle.promises.proofs.JoinedImages.{has-image}
 
 -- REFUSAL 15
 pub fifteen-exactly : promised.Fifteen-exactly
@@ -316,6 +317,10 @@ exchanged-compared bs cs ls p q s s′ n r s″ w x =
     (both-pass (joined-refusal cs bs ls) _ (both-pass (images-refusal cs bs) (alike-refusal ls) images l) (plans-exchanged (table-in bs) (table-in cs) p q y)) in
     x .answer ∙ ap (λ (f : ℕ). signed f (one-if (answer cs bs ls q p))) passes
     ∙ ap (λ (b : Bool). pos (one-if b)) (answer-is cs bs ls q p ∙ sym (answer-exchanged bs cs ls p q z)) ∙ ap pos (sym v)
+
+pub joined-image : promised.Joined-image
+unfolding promised.Joined-image
+joined-image = has-image
 
 pub joined-image-compared : promised.Joined-image-compared
 unfolding promised.Joined-image-compared

@@ -11,6 +11,7 @@ pub mod AlikeLists
 pub mod LogReplays
 pub mod Outcomes
 pub mod PlanGrowth
+pub mod JoinedImages
 pub mod JoinedTables
 pub mod BothAges
 pub mod Remainders

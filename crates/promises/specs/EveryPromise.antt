@@ -183,6 +183,7 @@ pub record EveryPromise : Type 1 where
   pub tables-compare-between : joinedtables.Tables-compare-between
   pub copies-compared : joinedtables.Copies-compared
   pub exchanged-compared : joinedtables.Exchanged-compared
+  pub joined-image : joinedtables.Joined-image
   pub joined-image-compared : joinedtables.Joined-image-compared
   -- THE NORMS THAT THE ROUNDS LOOK UP
   pub rows-normed : remainders.Rows-normed

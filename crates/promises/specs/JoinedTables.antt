@@ -19,6 +19,7 @@ use Rattle.joined.specs.Joined.{renumbered, joined, OwnRules, BisimilarBetween,
 use Rattle.joining.specs.JoinedBytes.{tables-refusal}
 use Rattle.sameness.specs.SamenessCalls.{ComparedAlike}
 use Rattle.two_tables.specs.TableCalls.{joined-table, ComparedTables}
+use Rattle.promises.specs.Promises.{AcceptedImage}
 
 -- REFUSAL 15 is given exactly if the two tables have more than 24 jobs or more than 252 rules together
 unfoldable pub Fifteen-exactly : Type 0
@@ -129,7 +130,13 @@ unfoldable pub Exchanged-compared : Type 0
 Exchanged-compared =
     (bs cs ls p q s s′ : List ℕ) (n : ℕ) (r : ℤ) (s″ : List ℕ) → ComparedTables bs cs ls p q s (pos n) s′ → ComparedTables cs bs ls q p s r s″ → r ≡ pos n
 
--- an image of the joined table, if there is one: the ordinary comparison over it answers the same
+-- two accepted images that fit together: the joined table has an accepted image too
+unfoldable pub Joined-image : Type 0
+Joined-image =
+    (bs cs : List ℕ) → AcceptedImage bs → AcceptedImage cs → tables-refusal (table-in bs) (table-in cs) ≡ 0 →
+    (js : List ℕ) × AcceptedImage js × (table-in js ≡ joined (table-in bs) (table-in cs))
+
+-- and the ordinary comparison over it answers the same
 unfoldable pub Joined-image-compared : Type 0
 Joined-image-compared =
     (bs cs js ls p q s s′ v v′ : List ℕ) (n m : ℕ) → table-in js ≡ joined (table-in bs) (table-in cs) →
