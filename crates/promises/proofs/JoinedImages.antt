@@ -17,6 +17,7 @@ use Rattle.rules.specs.Lists.{GoodList}
 use Rattle.rules.proofs.ListLaws.{length-rules-in}
 use Rattle.answer.proofs.RefusalChains.{both-pass}
 use Rattle.refusal.specs.Refusals.{any-zero, any-above, norms-refusal, table-refusal}
+use Rattle.refusal.proofs.TableRefusals.{tests}
 use Rattle.image.specs.Image.{image-jobs, image-places, table-in}
 use Rattle.image.specs.Writing.{list-refusal, write-refusal, written}
 use Rattle.image.proofs.ByteRows.{bytes, byte-take, byte-drop, places-bytes}
@@ -33,32 +34,22 @@ use Rattle.joining.proofs.JoinedLists.{own-rules, joined-list, joined-table}
 use Rattle.promises.specs.Promises.{all-bytes, AcceptedImage}
 use Rattle.promises.proofs.WrittenBytes.{written-bytes}
 
--- REFUSALS 6 AND 7 of one row of norms behind another
-no-refusal : (ns : List ℕ) → norms-refusal ns ≡ 0 → (any-zero ns ≡ false) × (any-above 512 ns ≡ false)
-unfolding norms-refusal
-no-refusal ns z = neither-test (any-zero ns) (any-above 512 ns) z
-  where
-    neither-test : (a b : Bool) → cond {A = ℕ} a 6 (cond b 7 0) ≡ 0 → (a ≡ false) × (b ≡ false)
-    neither-test true b e = absurd (omega (arith, e))
-    neither-test false true e = absurd (omega (arith, e))
-    neither-test false false e = (refl, refl)
+-- REFUSALS 6 AND 7 of one row of norms behind another: what no number of either row meets, none of both does
+module _ (some : List ℕ → Bool) (test : ℕ → Bool) (first : (v : ℕ) (ns : List ℕ) → some (v ∷ ns) ≡ (test v || some ns)) where
+  none-append : (ns ms : List ℕ) → some ns ≡ false → some ms ≡ false → some (ns ++ ms) ≡ false
+  none-append [] ms a b = b
+  none-append (v ∷ ns) ms a b =
+      let (h, k) = or-none (test v) (some ns) (sym (first v ns) ∙ a) in
+      first v (ns ++ ms) ∙ ap₂ _||_ h (none-append ns ms k b)
 
-zero-append : (ns ms : List ℕ) → any-zero ns ≡ false → any-zero ms ≡ false → any-zero (ns ++ ms) ≡ false
-unfolding any-zero
-zero-append [] ms a b = b
-zero-append (v ∷ ns) ms a b = let (h, k) = or-none (eqb v 0) (any-zero ns) a in ap₂ _||_ h (zero-append ns ms k b)
+abbrev Passed : List ℕ → Type 0
+Passed ns = (any-zero ns ≡ false) × (any-above 512 ns ≡ false)
 
-above-append : (ns ms : List ℕ) → any-above 512 ns ≡ false → any-above 512 ms ≡ false → any-above 512 (ns ++ ms) ≡ false
-unfolding any-above
-above-append [] ms a b = b
-above-append (v ∷ ns) ms a b = let (h, k) = or-none (ltb 512 v) (any-above 512 ns) a in ap₂ _||_ h (above-append ns ms k b)
-
-norms-append : (ns ms : List ℕ) → norms-refusal ns ≡ 0 → norms-refusal ms ≡ 0 → norms-refusal (ns ++ ms) ≡ 0
-unfolding norms-refusal
+norms-append : (ns ms : List ℕ) → Passed ns → Passed ms → norms-refusal (ns ++ ms) ≡ 0
+unfolding norms-refusal any-zero any-above
 norms-append ns ms p q =
-    let (a, b) = no-refusal ns p in
-    let (c, d) = no-refusal ms q in
-    ap₂ (λ (x y : Bool). cond {A = ℕ} x 6 (cond y 7 0)) (zero-append ns ms a c) (above-append ns ms b d)
+    ap₂ (λ (x y : Bool). cond {A = ℕ} x 6 (cond y 7 0)) (none-append any-zero (λ v. eqb v 0) (λ v l. refl) ns ms (p .0) (q .0))
+    (none-append (any-above 512) (ltb 512) (λ v l. refl) ns ms (p .1) (q .1))
 
 -- PLACES WHOSE JOBS ARE NUMBERED ON stay bytes
 module _ (n m : ℕ) (fits : n + m ≤ 256) where
@@ -134,7 +125,8 @@ module _ (bs cs : List ℕ) (b : AcceptedImage bs) (c : AcceptedImage cs) (z : t
   unfolding table-refusal table-in
   norms-pass =
       ap norms-refusal (norms-joined (table-in bs) (table-in cs) (own-rules n rs left-list) (image-table bs (b .passed) .good) (image-table cs (c .passed) .good))
-      ∙ norms-append (norms (table-in bs)) (norms (table-in cs)) (image-passes bs (b .passed) .1) (image-passes cs (c .passed) .1)
+      ∙ norms-append (norms (table-in bs)) (norms (table-in cs)) (tests (table-in bs) .2 (image-passes bs (b .passed) .1))
+      (tests (table-in cs) .2 (image-passes cs (c .passed) .1))
 
   passes : write-refusal (n + m) both ≡ 0
   unfolding write-refusal

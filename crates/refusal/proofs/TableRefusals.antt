@@ -53,7 +53,7 @@ refused false true r e = (λ h. absurd (omega arith), λ h. (refl, refl), λ h. 
 refused false false r e = (λ h. absurd (omega arith), λ h. absurd (omega arith), λ h. (refl, refl))
 
 module _ (t : Table) where
-  tests : (table-refusal t ≡ 6 → any-zero (norms t) ≡ true)
+  pub tests : (table-refusal t ≡ 6 → any-zero (norms t) ≡ true)
       × (table-refusal t ≡ 7 → (any-zero (norms t) ≡ false) × (any-above 512 (norms t) ≡ true))
       × (table-refusal t ≡ 0 → (any-zero (norms t) ≡ false) × (any-above 512 (norms t) ≡ false))
   unfolding table-refusal norms-refusal
