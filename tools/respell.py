@@ -16,7 +16,7 @@ import sys
 
 NAME = re.compile(r"(?<![\w'.·◌⟦-])[^\W\d_][\w']*(?:-[\w']+)+(?![\w'-])|(?<=\.)[^\W\d_][\w']*(?:-[\w']+)+(?![\w'-])")
 USE = re.compile(r"(?m)^\s*(?:pub )?(?:ghost )?use ([\w.'+-]+)\.\{([^}]*)\}")
-MADE = re.compile(r"tie\.$")
+MADE = re.compile(r"(?:\btie|Memᴰ)\.$")  # what Rattle makes, and a module of the library that is named whole
 # a lemma whose plain spelling is a word of the library that its files use
 OTHERWISE = {"bit-or": "or_bit"}
 

@@ -43,7 +43,7 @@ from_append ps qs a = ap (λ (l : List ℕ). stands_in l a) (map-append (λ (p :
 -- if no from-move stands twice, none of the pairs has one of the earlier ones
 later_new : (qs ps : List Pair) (p : Pair) → from_twice qs ps ≡ false → Memᴰ p ps → is_from qs p.from ≡ false
 unfolding from_twice
-later_new qs [] p h m = absurd (Memᴰ.not_nil m)
+later_new qs [] p h m = absurd (Memᴰ.not-nil m)
 later_new qs (q ∷ ps) p h m =
     let (e, k) = or_none (is_from qs q.from) (from_twice (qs ++ (q ∷ [])) ps) h in
     ⊎_elim (λ (d : p ≡ q). ap (λ (x : Pair). is_from qs x.from) d ∙ e)
@@ -64,7 +64,7 @@ first_new qs ps q h =
 -- and each from-move counts as its to-move
 told : (qs ps : List Pair) (p : Pair) → from_twice qs ps ≡ false → Memᴰ p ps → replace ps p.from ≡ p.to
 unfolding from_twice replace stands_in
-told qs [] p h m = absurd (Memᴰ.not_nil m)
+told qs [] p h m = absurd (Memᴰ.not-nil m)
 told qs (q ∷ ps) p h m =
     let (e, k) = or_none (is_from qs q.from) (from_twice (qs ++ (q ∷ [])) ps) h in
     ⊎_elim
@@ -80,7 +80,7 @@ told qs (q ∷ ps) p h m =
 -- no to-move is a from-move
 to_new : (all ps : List Pair) (p : Pair) → from_as_to all ps ≡ false → Memᴰ p ps → is_from all p.to ≡ false
 unfolding from_as_to
-to_new all [] p h m = absurd (Memᴰ.not_nil m)
+to_new all [] p h m = absurd (Memᴰ.not-nil m)
 to_new all (q ∷ ps) p h m =
     let (e, k) = or_none (is_from all q.to) (from_as_to all ps) h in
     ⊎_elim (λ (d : p ≡ q). ap (λ (x : Pair). is_from all x.to) d ∙ e) (λ (n : Memᴰ p ps). to_new all ps p k n) (Memᴰ.cases_cons m)

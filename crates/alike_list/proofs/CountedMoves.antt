@@ -63,7 +63,7 @@ sum_once qs (p ∷ ps) a h k =
 
 -- the to-move of a pair stands in the row of to-moves
 to_place : (ps : List Pair) (p : Pair) → Memᴰ p ps → (k : ℕ) × (k < length ps) × (get_or (tos ps) k 0 ≡ p.to)
-to_place [] p m = absurd (mathlib.Core.List.Memᴰ.not_nil m)
+to_place [] p m = absurd (mathlib.Core.List.Memᴰ.not-nil m)
 to_place (q ∷ ps) p m = ⊎_elim
     (λ (e : p ≡ q). (0, omega arith, ap (λ (x : Pair). x.to) (sym e)))
     (λ (n : Memᴰ p ps). let (k, l, e) = to_place ps p n in (suc k, omega arith, e))

@@ -27,7 +27,7 @@ copies_norm ns zero j h = refl
 copies_norm ns (suc n) j h = omega (arith, copies_norm ns n j h)
 
 copies_same : (n j m : ℕ) → Memᴰ m (replicate n j) → m ≡ j
-copies_same zero j m k = absurd (Memᴰ.not_nil k)
+copies_same zero j m k = absurd (Memᴰ.not-nil k)
 copies_same (suc n) j m k = ⊎_elim (λ (e : m ≡ j). e) (copies_same n j m) (Memᴰ.cases_cons k)
 
 module _ (t : Table) (ns : List ℕ) (g : Good t ns) (d : Rows) (f : FirstRows t ns d) where

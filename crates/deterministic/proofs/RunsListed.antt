@@ -21,7 +21,7 @@ with_first m run = m.move ∷ run
 module _ (f : List ℕ → List (List ℕ)) where
   into_each : (ms : List Move) (m : Move) (run : List ℕ) → Memᴰ m ms → Memᴰ run (f m.rest) → Memᴰ (m.move ∷ run) (by_each f ms)
   unfolding by_each
-  into_each [] m run k h = absurd (mathlib.Core.List.Memᴰ.not_nil k)
+  into_each [] m run k h = absurd (mathlib.Core.List.Memᴰ.not-nil k)
   into_each (x ∷ ms) m run k h =
       ⊎_elim
       (λ (e : m ≡ x).
@@ -33,7 +33,7 @@ module _ (f : List ℕ → List (List ℕ)) where
   from_each : (ms : List Move) (run : List ℕ) → Memᴰ run (by_each f ms) →
       (m : Move) × (more : List ℕ) × Memᴰ m ms × Memᴰ more (f m.rest) × (m.move ∷ more ≡ run)
   unfolding by_each
-  from_each [] run k = absurd (mathlib.Core.List.Memᴰ.not_nil k)
+  from_each [] run k = absurd (mathlib.Core.List.Memᴰ.not-nil k)
   from_each (x ∷ ms) run k =
       ⊎_elim
       (λ (i : Memᴰ run (map (with_first x) (f x.rest))).
@@ -43,7 +43,7 @@ module _ (f : List ℕ → List (List ℕ)) where
 
 rest_of_each : (f : List ℕ → Bool) (ms : List Move) (m : Move) → each_rest f ms ≡ true → Memᴰ m ms → f m.rest ≡ true
 unfolding each_rest
-rest_of_each f [] m e k = absurd (mathlib.Core.List.Memᴰ.not_nil k)
+rest_of_each f [] m e k = absurd (mathlib.Core.List.Memᴰ.not-nil k)
 rest_of_each f (x ∷ ms) m e k =
     ⊎_elim (λ (i : m ≡ x). ap (λ (y : Move). f y.rest) i ∙ and_left (f x.rest) (each_rest f ms) e)
     (rest_of_each f ms m (and_right (f x.rest) (each_rest f ms) e)) (mathlib.Core.List.Memᴰ.cases_cons k)
@@ -61,7 +61,7 @@ module _ (t : Table) where
   listed_runs : (n : ℕ) (p run : List ℕ) → Memᴰ run (runs_within t n p) → Runs t p run []
   unfolding runs_within
   listed_runs zero [] run k = subst (λ (l : List ℕ). Runs t [] l []) (sym (mathlib.Core.List.Memᴰ.eq_of_singleton k)) (empty_run [])
-  listed_runs zero (j ∷ js) run k = absurd (mathlib.Core.List.Memᴰ.not_nil k)
+  listed_runs zero (j ∷ js) run k = absurd (mathlib.Core.List.Memᴰ.not-nil k)
   listed_runs (suc n) [] run k = subst (λ (l : List ℕ). Runs t [] l []) (sym (mathlib.Core.List.Memᴰ.eq_of_singleton k)) (empty_run [])
   listed_runs (suc n) (j ∷ js) run k =
       let (m, more, i, h, e) = from_each (runs_within t n) (moves t (j ∷ js)) run k in

@@ -78,7 +78,7 @@ module _ (t : Table) (g : Good t (norms t)) (d : Deterministic t) where
 
     all_steps : (ms : List Move) → ((m : Move) → Memᴰ m ms → Step t p m.move m.rest) →
         ((m : Move) → Memᴰ m ms → Matched m) ⊎ TellingRun t p q
-    all_steps [] f = inl (λ m k. absurd (Memᴰ.not_nil k))
+    all_steps [] f = inl (λ m k. absurd (Memᴰ.not-nil k))
     all_steps (x ∷ ms) f =
         ⊎_elim
         (λ (h : Matched x).

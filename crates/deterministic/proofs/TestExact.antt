@@ -57,7 +57,7 @@ with_one r (s ∷ ss) e =
 
 with_none : (r : Rule) (ss : List Rule) → choice_with r ss ≡ false → (s : Rule) → Memᴰ s ss → r.job ≡ s.job → r.move ≡ s.move → r.after ≡ s.after
 unfolding choice_with
-with_none r [] e s m j a = absurd (Memᴰ.not_nil m)
+with_none r [] e s m j a = absurd (Memᴰ.not-nil m)
 with_none r (x ∷ ss) e s m j a =
     let (f, g) = or_none (is_choice r x) (choice_with r ss) e in
     ⊎_elim
@@ -77,7 +77,7 @@ among_one (r ∷ rs) e =
 among_none : (rs : List Rule) → choice_among rs ≡ false → (r s : Rule) → Memᴰ r rs → Memᴰ s rs →
     r.job ≡ s.job → r.move ≡ s.move → r.after ≡ s.after
 unfolding choice_among
-among_none [] e r s m k j a = absurd (Memᴰ.not_nil m)
+among_none [] e r s m k j a = absurd (Memᴰ.not-nil m)
 among_none (x ∷ rs) e r s m k j a =
     let (f, g) = or_none (choice_with x rs) (choice_among rs) e in
     let J : Rule → ℕ = λ y. y.job in

@@ -82,7 +82,7 @@ earlier_cases P (a ∷ u) (b ∷ v) f g =
 
 pub earliest_member : (rows : List (List ℕ)) {row : List ℕ} → Memᴰ row rows → Memᴰ (earliest rows) rows
 unfolding earliest
-earliest_member [] m = absurd (Memᴰ.not_nil m)
+earliest_member [] m = absurd (Memᴰ.not-nil m)
 earliest_member (u ∷ []) m = here refl
 earliest_member (u ∷ v ∷ more) m =
     earlier_cases (λ l. Memᴰ l (u ∷ v ∷ more)) u (earliest (v ∷ more)) (λ h. here refl)
@@ -90,7 +90,7 @@ earliest_member (u ∷ v ∷ more) m =
 
 pub earliest_first : (rows : List (List ℕ)) {row : List ℕ} → Memᴰ row rows → NotAfter (earliest rows) row
 unfolding earliest
-earliest_first [] m = absurd (Memᴰ.not_nil m)
+earliest_first [] m = absurd (Memᴰ.not-nil m)
 earliest_first (u ∷ []) m = inl (sym (Memᴰ.eq_of_singleton m))
 earliest_first (u ∷ v ∷ more) {row} m =
     let rest = earliest (v ∷ more) in

@@ -19,6 +19,6 @@ module _ (t : Table) where
     step_moves (j ∷ js) q a (w, r, e) = small j a w r
 
     pub run_moves : {p run end : List ℕ} → Runs t p run end → (v : ℕ) → Memᴰ v run → v < bound
-    run_moves (empty_run p) v m = absurd (Memᴰ.not_nil m)
+    run_moves (empty_run p) v m = absurd (Memᴰ.not-nil m)
     run_moves (longer_run p q a more end s r) v m =
         ⊎_elim (λ (e : v ≡ a). omega (arith, step_moves p q a s)) (λ k. run_moves r v k) (Memᴰ.cases_cons m)

@@ -42,7 +42,7 @@ module _ (ns : List ℕ) (j : ℕ) where
 
     pub by_lowering : (rs : List Rule) {row : List ℕ} → Memᴰ row (runs_by f ns j rs) → ByLowering rs row
     unfolding runs_by
-    by_lowering [] m = absurd (Memᴰ.not_nil m)
+    by_lowering [] m = absurd (Memᴰ.not-nil m)
     by_lowering (r ∷ rs) {row} m =
         runs_cases (λ l. Memᴰ row l → ByLowering (r ∷ rs) row) r rs
         (λ h k. ⊎_elim (λ e. (r, here refl, h, e)) (λ d. later (by_lowering rs d)) (Memᴰ.cases_cons k))
@@ -52,7 +52,7 @@ module _ (ns : List ℕ) (j : ℕ) where
         later (s, k, h, e) = (s, there k, h, e)
 
     pub each_lowering : (rs : List Rule) {r : Rule} → Memᴰ r rs → Lowers r → Memᴰ (run_by r) (runs_by f ns j rs)
-    each_lowering [] m h = absurd (Memᴰ.not_nil m)
+    each_lowering [] m h = absurd (Memᴰ.not-nil m)
     each_lowering (s ∷ rs) {r} m h =
         runs_cases (Memᴰ (run_by r)) s rs
         (λ k. ⊎_elim (λ e. here (ap run_by e)) (λ d. there (each_lowering rs d h)) (Memᴰ.cases_cons m))

@@ -21,7 +21,7 @@ rises_tail i (j ∷ js) h = and_right (ltb i j) (rises (j ∷ js)) h
 -- the first is the least
 first_least : (i : ℕ) (l : List ℕ) → rises (i ∷ l) ≡ true → (x : ℕ) → Memᴰ x l → i < x
 unfolding rises
-first_least i [] h x m = absurd (Memᴰ.not_nil m)
+first_least i [] h x m = absurd (Memᴰ.not-nil m)
 first_least i (j ∷ js) h x m =
     let less : i < j = ltb-true i j (and_left (ltb i j) (rises (j ∷ js)) h) in
     ⊎_elim (λ (e : x ≡ j). omega (arith, less, e)) (λ n. omega (arith, less, first_least j js (and_right (ltb i j) (rises (j ∷ js)) h) x n))
@@ -41,8 +41,8 @@ in_tail i j l m h e f x n =
 
 same_list : (l m : List ℕ) → rises l ≡ true → rises m ≡ true → SameJobs l m → l ≡ m
 same_list [] [] h k f = refl
-same_list [] (j ∷ m) h k f = absurd (Memᴰ.not_nil ((f j).1 (Memᴰ.head refl)))
-same_list (i ∷ l) [] h k f = absurd (Memᴰ.not_nil ((f i).0 (Memᴰ.head refl)))
+same_list [] (j ∷ m) h k f = absurd (Memᴰ.not-nil ((f j).1 (Memᴰ.head refl)))
+same_list (i ∷ l) [] h k f = absurd (Memᴰ.not-nil ((f i).0 (Memᴰ.head refl)))
 same_list (i ∷ l) (j ∷ m) h k f =
     let e : i ≡ j = omega (arith, first_of_all i l h j ((f j).1 (Memᴰ.head refl)), first_of_all j m k i ((f i).0 (Memᴰ.head refl))) in
     ap₂ ◌∷◌ e

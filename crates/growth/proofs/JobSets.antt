@@ -70,7 +70,7 @@ module _ (x : ℕ) where
 
   member_at : (j : ℕ) (s : JobSet) → Memᴰ x (members_from j s) → At j s
   unfolding members_from
-  member_at j [] m = absurd (Memᴰ.not_nil m)
+  member_at j [] m = absurd (Memᴰ.not-nil m)
   member_at j (b ∷ s) m =
       ⊎_elim (λ (w : (b ≡ true) × Memᴰ x (j ∷ [])). (0, omega (arith, Memᴰ.eq_of_singleton w.1), w.0))
       (λ n. let (i, e, h) = member_at (suc j) s n in (suc i, omega (arith, e), h))
@@ -135,7 +135,7 @@ all_pass f n h i l =
 -- TESTS OVER LISTS
 pub stands_member : (p : List ℕ) (j : ℕ) → (stands_in p j ≡ true) ↔ Memᴰ j p
 unfolding stands_in
-stands_member [] j = ((λ e. absurd (true≢false (sym e))), (λ m. absurd (Memᴰ.not_nil m)))
+stands_member [] j = ((λ e. absurd (true≢false (sym e))), (λ m. absurd (Memᴰ.not-nil m)))
 stands_member (i ∷ is) j = (
   (λ e.
       ⊎_elim (λ h. Memᴰ.head (sym (eqb-true i j h))) (λ h. Memᴰ.tail ((stands_member is j).0 h))
@@ -147,7 +147,7 @@ stands_member (i ∷ is) j = (
 
 pub one_exactly : (f : ℕ → Bool) (js : List ℕ) → (one_of f js ≡ true) ↔ ((j : ℕ) × Memᴰ j js × (f j ≡ true))
 unfolding one_of
-one_exactly f [] = ((λ e. absurd (true≢false (sym e))), (λ w. absurd (Memᴰ.not_nil w.1)))
+one_exactly f [] = ((λ e. absurd (true≢false (sym e))), (λ w. absurd (Memᴰ.not-nil w.1)))
 one_exactly f (j ∷ js) = (
   (λ e.
       ⊎_elim (λ h. (j, Memᴰ.head refl, h))

@@ -50,7 +50,7 @@ module _ (t : Table) where
     through_front u p o = becomes_waiting p (finish u o)
 
     comes_first : (p : List ℕ) (k : ℕ) → over t p ≡ true → Memᴰ k p → (back : List ℕ) × Becomes t p (k ∷ back)
-    comes_first [] k o m = absurd (Memᴰ.not_nil m)
+    comes_first [] k o m = absurd (Memᴰ.not-nil m)
     comes_first (i ∷ is) k o m =
         ⊎_elim (λ (e : k ≡ i). (is, subst (λ (x : ℕ). Becomes t (i ∷ is) (x ∷ is)) (sym e) (stays (i ∷ is))))
         (λ n.

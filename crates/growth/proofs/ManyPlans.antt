@@ -8,7 +8,7 @@ use Rattle.bpa.specs.Plans.{Table}
 use Rattle.growth.specs.Growth.{Becomes, Endless, ManyApart}
 
 pub many_apart : (t : Table) (p : List ℕ) → Endless t p → (n : ℕ) → ManyApart t p n
-many_apart t p e zero = ([], refl, (λ q m. absurd (Memᴰ.not_nil m)), tt)
+many_apart t p e zero = ([], refl, (λ q m. absurd (Memᴰ.not-nil m)), tt)
 many_apart t p e (suc n) =
     let (plans, h, each, apart) = many_apart t p e n in
     let (q, b, none) = e plans in (

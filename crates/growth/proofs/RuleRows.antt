@@ -19,7 +19,7 @@ ComesIn s rs j = (r : Rule) × Memᴰ r rs × (has s r.job ≡ true) × Memᴰ j
 
 pub comes_exactly : (s : JobSet) (rs : List Rule) (j : ℕ) → (comes_in s rs j ≡ true) ↔ ComesIn s rs j
 unfolding comes_in
-comes_exactly s [] j = ((λ e. absurd (true≢false (sym e))), (λ w. absurd (Memᴰ.not_nil w.1)))
+comes_exactly s [] j = ((λ e. absurd (true≢false (sym e))), (λ w. absurd (Memᴰ.not-nil w.1)))
 comes_exactly s (r ∷ rs) j = (
   (λ e.
       ⊎_elim
@@ -49,7 +49,7 @@ InFront rs j k = (r : Rule) × Memᴰ r rs × (r.job ≡ j) × Memᴰ k (all_but
 
 pub fronts_exactly : (rs : List Rule) (j k : ℕ) → Memᴰ k (fronts rs j) ↔ InFront rs j k
 unfolding fronts
-fronts_exactly [] j k = ((λ m. absurd (Memᴰ.not_nil m)), (λ w. absurd (Memᴰ.not_nil w.1)))
+fronts_exactly [] j k = ((λ m. absurd (Memᴰ.not-nil m)), (λ w. absurd (Memᴰ.not-nil w.1)))
 fronts_exactly (r ∷ rs) j k = (
   (λ m.
       ⊎_elim
@@ -75,8 +75,8 @@ StandsBefore w k = (u : List ℕ) × (i : ℕ) × (v : List ℕ) × (w ≡ u ++ 
 
 pub stands_before : (w : List ℕ) (k : ℕ) → Memᴰ k (all_but_last w) → StandsBefore w k
 unfolding all_but_last
-stands_before [] k m = absurd (Memᴰ.not_nil m)
-stands_before (i ∷ []) k m = absurd (Memᴰ.not_nil m)
+stands_before [] k m = absurd (Memᴰ.not-nil m)
+stands_before (i ∷ []) k m = absurd (Memᴰ.not-nil m)
 stands_before (i ∷ j ∷ w) k m =
     ⊎_elim (λ (e : k ≡ i). ([], j, w, ap (λ (x : ℕ). x ∷ j ∷ w) (sym e)))
     (λ n. let (u, x, v, e) = stands_before (j ∷ w) k n in (i ∷ u, x, v, ap (λ (l : List ℕ). i ∷ l) e)) (Memᴰ.cases_cons m)
@@ -84,6 +84,6 @@ stands_before (i ∷ j ∷ w) k m =
 -- they are jobs of the row
 pub in_row : (w : List ℕ) (k : ℕ) → Memᴰ k (all_but_last w) → Memᴰ k w
 unfolding all_but_last
-in_row [] k m = absurd (Memᴰ.not_nil m)
-in_row (i ∷ []) k m = absurd (Memᴰ.not_nil m)
+in_row [] k m = absurd (Memᴰ.not-nil m)
+in_row (i ∷ []) k m = absurd (Memᴰ.not-nil m)
 in_row (i ∷ j ∷ w) k m = ⊎_elim (λ (e : k ≡ i). Memᴰ.head e) (λ n. Memᴰ.tail (in_row (j ∷ w) k n)) (Memᴰ.cases_cons m)

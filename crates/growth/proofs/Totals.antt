@@ -13,6 +13,6 @@ module _ {A : Type 0} (f : A → ℕ) where
 
   pub within_total : (x : A) (xs : List A) → Memᴰ x xs → f x ≤ total xs
   unfolding total
-  within_total x [] m = absurd (Memᴰ.not_nil m)
+  within_total x [] m = absurd (Memᴰ.not-nil m)
   within_total x (y ∷ xs) m =
       ⊎_elim (λ (e : x ≡ y). omega (arith, ap f e)) (λ n. omega (arith, within_total x xs n)) (Memᴰ.cases_cons m)

@@ -38,7 +38,7 @@ jobs_as f g = record {
 
 -- A PLAN
 pub plan_none : (p : List ℕ) → PlanBits (take 0 p) 0
-plan_none p = jobs_as (λ k. ((λ f. absurd f), (λ m. absurd (Memᴰ.not_nil m)))) no_jobs
+plan_none p = jobs_as (λ k. ((λ f. absurd f), (λ m. absurd (Memᴰ.not-nil m)))) no_jobs
 
 -- with one job more behind
 behind : (p : List ℕ) (j k : ℕ) → (Memᴰ k p ⊎ (k ≡ j)) ↔ Memᴰ k (p ++ j ∷ [])

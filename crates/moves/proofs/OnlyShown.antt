@@ -42,8 +42,8 @@ module _ (ms : List Move) where
   one_list : (l k : List Move) → ByFirstPlaces ms l → ByFirstPlaces ms k → ((m : Move) → Memᴰ m l → Memᴰ m k) →
       ((m : Move) → Memᴰ m k → Memᴰ m l) → l ≡ k
   one_list [] [] o p f g = refl
-  one_list [] (b ∷ k) o p f g = absurd (Memᴰ.not_nil (g b (Memᴰ.head refl)))
-  one_list (a ∷ l) [] o p f g = absurd (Memᴰ.not_nil (f a (Memᴰ.head refl)))
+  one_list [] (b ∷ k) o p f g = absurd (Memᴰ.not-nil (g b (Memᴰ.head refl)))
+  one_list (a ∷ l) [] o p f g = absurd (Memᴰ.not-nil (f a (Memᴰ.head refl)))
   one_list (a ∷ l) (b ∷ k) o p f g =
       let e = heads a b l k o p (f a (Memᴰ.head refl)) (g b (Memᴰ.head refl)) in
       let rest =

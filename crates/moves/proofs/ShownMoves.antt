@@ -47,7 +47,7 @@ at_member (x ∷ ms) zero m h = Memᴰ.head h
 at_member (x ∷ ms) (suc n) m h = Memᴰ.tail (at_member ms n m h)
 
 pub member_at : (ms : List Move) (m : Move) → Memᴰ m ms → (n : ℕ) × At ms n m
-member_at [] m h = absurd (Memᴰ.not_nil h)
+member_at [] m h = absurd (Memᴰ.not-nil h)
 member_at (x ∷ ms) m h =
     ⊎_elim (λ (e : m ≡ x). (0, e)) (λ (k : Memᴰ m ms). let (n, a) = member_at ms m k in (suc n, a)) (Memᴰ.cases_cons h)
 
@@ -97,7 +97,7 @@ module _ (a : Move) where
 
   without_others : (ms : List Move) (m : Move) → (m ≡ a → ⊥) → Memᴰ m ms → Memᴰ m (without a ms)
   unfolding without
-  without_others [] m d h = absurd (Memᴰ.not_nil h)
+  without_others [] m d h = absurd (Memᴰ.not-nil h)
   without_others (x ∷ ms) m d h =
       still x m (without a ms) (same_move a x) refl d
       (⊎_elim (λ (q : m ≡ x). inl q) (λ (k : Memᴰ m ms). inr (without_others ms m d k)) (Memᴰ.cases_cons h))
@@ -113,7 +113,7 @@ once_at (x ∷ ms) (suc n) m h =
 
 once_has : (ms : List Move) (m : Move) → Memᴰ m ms → Memᴰ m (once ms)
 unfolding once
-once_has [] m h = absurd (Memᴰ.not_nil h)
+once_has [] m h = absurd (Memᴰ.not-nil h)
 once_has (x ∷ ms) m h =
     by_test (same_move m x) (λ e. Memᴰ.head (one_move m x e))
     (λ f. Memᴰ.tail (without_others x (once ms) m (λ q. never_both (same_move m x) (same_self m x q) f)
@@ -140,7 +140,7 @@ later x ms m n d f = record {
     from (suc k) h = let l = f.first k h in omega arith
 
 first_place : (ms : List Move) (m : Move) → Memᴰ m ms → (n : ℕ) × FirstAt ms m n
-first_place [] m h = absurd (Memᴰ.not_nil h)
+first_place [] m h = absurd (Memᴰ.not-nil h)
 first_place (x ∷ ms) m h =
     by_test (same_move m x) (λ e. (0, record { stands = one_move m x e; first = λ k a. omega arith }))
     (λ f.

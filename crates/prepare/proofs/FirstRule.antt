@@ -43,7 +43,7 @@ module _ (f : Rule → Bool) where
   seek_past r l e = rw e
 
   pub seek_found : (l : List Rule) (r : Rule) → Memᴰ r l → f r ≡ true → seek f l < length l
-  seek_found [] r m e = absurd (Memᴰ.not_nil m)
+  seek_found [] r m e = absurd (Memᴰ.not-nil m)
   seek_found (s ∷ l) r m e =
       by_test (f s)
       (λ q. omega (arith, seek_here s l q))

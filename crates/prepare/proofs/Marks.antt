@@ -53,7 +53,7 @@ module _ (ns : List ℕ) (j : ℕ) where
   -- the bit of each of its steps is in it
   bit_in : (l : List Rule) (r : Rule) → Memᴰ r l → of_job j r ≡ true → bit_or (step_bit ns r) (mark ns j l) ≡ mark ns j l
   unfolding mark
-  bit_in [] r m e = absurd (Memᴰ.not_nil m)
+  bit_in [] r m e = absurd (Memᴰ.not-nil m)
   bit_in (s ∷ l) r m e =
       let b = step_bit ns s in
       by_test (of_job j s)

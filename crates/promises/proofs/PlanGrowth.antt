@@ -154,7 +154,7 @@ unfolding promised.GrowthOfNone grows one_of
 growth_of_none bs n w =
     let t = table_in bs in
     subst (λ (l : List ℕ). n ≡ 2 * length l + cond (one_of (grows_at t) l) 1 0)
-    (no_members (members (reached t [])) (λ j m. Memᴰ.not_nil (reached_led t [] j ((member_exactly j (reached t [])).0 m)).1)) (by_parts bs [] n w)
+    (no_members (members (reached t [])) (λ j m. Memᴰ.not-nil (reached_led t [] j ((member_exactly j (reached t [])).0 m)).1)) (by_parts bs [] n w)
   where
     no_members : (l : List ℕ) → ((j : ℕ) → Memᴰ j l → ⊥) → l ≡ []
     no_members [] f = refl

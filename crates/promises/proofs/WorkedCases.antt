@@ -348,7 +348,7 @@ case_true (move_is w p n bs) e =
 -- and so are all of a list
 all_true : (cs : List Case) → all_pass cs ≡ true → (c : Case) → Memᴰ c cs → Means c
 unfolding all_pass
-all_true [] e c m = absurd (Memᴰ.not_nil m)
+all_true [] e c m = absurd (Memᴰ.not-nil m)
 all_true (d ∷ cs) e c m =
     ⊎_elim (λ p. case_true c (ap passes p ∙ and_left (passes d) (all_pass cs) e))
     (all_true cs (and_right (passes d) (all_pass cs) e) c) (Memᴰ.cases_cons m)

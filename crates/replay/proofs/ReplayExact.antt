@@ -22,7 +22,7 @@ module _ (a : ℕ) (q : List ℕ) where
 
   pub is_move : (ms : List Move) → Memᴰ q (by_move a ms) → Memᴰ this ms
   unfolding by_move
-  is_move [] m = absurd (mathlib.Core.List.Memᴰ.not_nil m)
+  is_move [] m = absurd (mathlib.Core.List.Memᴰ.not-nil m)
   is_move (x ∷ ms) m =
       by_test (eqb x.move a)
       (λ e.
@@ -35,7 +35,7 @@ module _ (a : ℕ) (q : List ℕ) where
 
   pub of_move : (ms : List Move) → Memᴰ this ms → Memᴰ q (by_move a ms)
   unfolding by_move
-  of_move [] m = absurd (mathlib.Core.List.Memᴰ.not_nil m)
+  of_move [] m = absurd (mathlib.Core.List.Memᴰ.not-nil m)
   of_move (x ∷ ms) m =
       ⊎_elim
       (λ (f : this ≡ x).
@@ -52,7 +52,7 @@ module _ (t : Table) where
   module _ (a : ℕ) (q : List ℕ) where
     some_step : (ps : List (List ℕ)) → Memᴰ q (after_move t a ps) → Some ps (λ p. Step t p a q)
     unfolding after_move
-    some_step [] m = absurd (mathlib.Core.List.Memᴰ.not_nil m)
+    some_step [] m = absurd (mathlib.Core.List.Memᴰ.not-nil m)
     some_step (p ∷ ps) m =
         ⊎_elim
         (λ (h : Memᴰ q (by_move a (moves t p))). (p, mathlib.Core.List.Memᴰ.head refl, moves_are_steps t p a q (is_move a q (moves t p) h)))
@@ -61,7 +61,7 @@ module _ (t : Table) where
 
     step_some : (ps : List (List ℕ)) (p : List ℕ) → Memᴰ p ps → Step t p a q → Memᴰ q (after_move t a ps)
     unfolding after_move
-    step_some [] p m s = absurd (mathlib.Core.List.Memᴰ.not_nil m)
+    step_some [] p m s = absurd (mathlib.Core.List.Memᴰ.not-nil m)
     step_some (x ∷ ps) p m s =
         ⊎_elim
         (λ (e : p ≡ x).
@@ -80,7 +80,7 @@ module _ (t : Table) where
 -- NONE LEFT, and one that is empty
 pub none_in : (ps : List (List ℕ)) (q : List ℕ) → none_left ps ≡ true → Memᴰ q ps → ⊥
 unfolding none_left
-none_in [] q e m = mathlib.Core.List.Memᴰ.not_nil m
+none_in [] q e m = mathlib.Core.List.Memᴰ.not-nil m
 none_in (p ∷ ps) q e m = true≢false (sym e)
 
 pub one_in : (ps : List (List ℕ)) → none_left ps ≡ false → (q : List ℕ) × Memᴰ q ps
@@ -96,7 +96,7 @@ empty_in ((j ∷ js) ∷ ps) e = mathlib.Core.List.Memᴰ.tail (empty_in ps e)
 
 in_empty : (ps : List (List ℕ)) (q : List ℕ) → q ≡ [] → Memᴰ q ps → one_empty ps ≡ true
 unfolding one_empty
-in_empty [] q z m = absurd (mathlib.Core.List.Memᴰ.not_nil m)
+in_empty [] q z m = absurd (mathlib.Core.List.Memᴰ.not-nil m)
 in_empty ([] ∷ ps) q z m = refl
 in_empty ((j ∷ js) ∷ ps) q z m =
     ⊎_elim (λ (e : q ≡ j ∷ js). absurd (nil≢cons (sym z ∙ e))) (λ (h : Memᴰ q ps). in_empty ps q z h) (mathlib.Core.List.Memᴰ.cases_cons m)

@@ -104,7 +104,7 @@ has_rule_at (suc k) xs (suc i) r h e = Memᴰ.tail (has_rule_at k (drop 8 xs) i 
 
 pub position_of : (k : ℕ) (xs : List ℕ) (r : Rule) → Memᴰ r (rules_in k xs) → (i : ℕ) × (i < k) × (rule_at xs i ≡ r)
 unfolding rules_in rule_at
-position_of zero xs r m = absurd (Memᴰ.not_nil m)
+position_of zero xs r m = absurd (Memᴰ.not-nil m)
 position_of (suc k) xs r m = ⊎_elim
     (λ (e : r ≡ rule_in (take 8 xs)). (0, omega arith, sym e))
     (λ (t : Memᴰ r (rules_in k (drop 8 xs))).

@@ -31,7 +31,7 @@ most ns (r ∷ rs) = max (sum_of ns r.after) (most ns rs)
 
 most_bounds : (ns : List ℕ) (rs : List Rule) (r : Rule) → Memᴰ r rs → sum_of ns r.after ≤ most ns rs
 unfolding most
-most_bounds ns [] r m = absurd (Memᴰ.not_nil m)
+most_bounds ns [] r m = absurd (Memᴰ.not-nil m)
 most_bounds ns (r₁ ∷ rs) r m =
     ⊎_elim (λ (e : r ≡ r₁). omega (arith, ap (λ u. sum_of ns u.after) e))
     (λ k. omega (arith, most_bounds ns rs r k)) (Memᴰ.cases_cons m)

@@ -32,7 +32,7 @@ module _ (f : List ℕ → List ℕ → Bool) where
 
   by_answer : (m : Move) (ns : List Move) (n : Move) → Memᴰ n ns → Answers m n → answered f m ns ≡ true
   unfolding answered
-  by_answer m [] n i h = absurd (Memᴰ.not_nil i)
+  by_answer m [] n i h = absurd (Memᴰ.not-nil i)
   by_answer m (n₁ ∷ ns) n i h =
       ⊎_elim
       (λ (e : n ≡ n₁).
@@ -43,7 +43,7 @@ module _ (f : List ℕ → List ℕ → Bool) where
 
   each_answered : (ms ns : List Move) → all_answered f ms ns ≡ true → (m : Move) → Memᴰ m ms → answered f m ns ≡ true
   unfolding all_answered
-  each_answered [] ns h m i = absurd (Memᴰ.not_nil i)
+  each_answered [] ns h m i = absurd (Memᴰ.not-nil i)
   each_answered (m₁ ∷ ms) ns h m i =
       ⊎_elim (λ (e : m ≡ m₁). rw e (and_left (answered f m₁ ns) (all_answered f ms ns) h))
       (λ k. each_answered ms ns (and_right (answered f m₁ ns) (all_answered f ms ns) h) m k) (Memᴰ.cases_cons i)

@@ -20,7 +20,7 @@ Each P p = (j : ℕ) → Memᴰ j p → P j
 
 module _ (P : ℕ → Type 0) where
   pub each_none : Each P []
-  each_none j m = absurd (Memᴰ.not_nil m)
+  each_none j m = absurd (Memᴰ.not-nil m)
 
   pub each_cons : (j : ℕ) (js : List ℕ) → P j → Each P js → Each P (j ∷ js)
   each_cons j js h k i m = ⊎_elim (λ (e : i ≡ j). subst P (sym e) h) (k i) (Memᴰ.cases_cons m)

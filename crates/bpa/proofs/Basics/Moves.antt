@@ -37,7 +37,7 @@ module _ (j : ℕ) (xs : List ℕ) (a : ℕ) (q : List ℕ) where
 
   fires_of : (rs : List Rule) → Memᴰ this (job_moves j xs rs) → Fires rs
   unfolding job_moves
-  fires_of [] h = absurd (Memᴰ.not_nil h)
+  fires_of [] h = absurd (Memᴰ.not-nil h)
   fires_of (r ∷ rs) h =
       ⊎_elim
       (λ (e : (eqb r.job j ≡ true) × (this ≡ move_by r)). (
@@ -50,7 +50,7 @@ module _ (j : ℕ) (xs : List ℕ) (a : ℕ) (q : List ℕ) where
 
   of_fires : (rs : List Rule) → Fires rs → Memᴰ this (job_moves j xs rs)
   unfolding job_moves
-  of_fires [] (w, h, e) = absurd (Memᴰ.not_nil h)
+  of_fires [] (w, h, e) = absurd (Memᴰ.not-nil h)
   of_fires (r ∷ rs) (w, h, e) =
       ⊎_elim
       (λ (f : record { job = j; move = a; after = w } ≡ r).
@@ -63,7 +63,7 @@ module _ (j : ℕ) (xs : List ℕ) (a : ℕ) (q : List ℕ) where
 pub moves_are_steps : (t : Table) (p : List ℕ) (a : ℕ) (q : List ℕ) →
     Memᴰ {A = Move} (record { move = a; rest = q }) (moves t p) → Step t p a q
 unfolding moves
-moves_are_steps t [] a q h = absurd (Memᴰ.not_nil h)
+moves_are_steps t [] a q h = absurd (Memᴰ.not-nil h)
 moves_are_steps t (j ∷ js) a q h = fires_of j js a q t.rules h
 
 pub steps_are_moves : (t : Table) (p : List ℕ) (a : ℕ) (q : List ℕ) → Step t p a q →

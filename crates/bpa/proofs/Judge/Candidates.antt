@@ -51,7 +51,7 @@ module _ (ns : List ℕ) (j : ℕ) where
 
   lowering_finds : (rs : List Rule) (w : List ℕ) → Lowers rs w → Lowers rs (lowering ns rs j)
   unfolding lowering
-  lowering_finds [] w h = absurd (Memᴰ.not_nil h.1)
+  lowering_finds [] w h = absurd (Memᴰ.not-nil h.1)
   lowering_finds (r ∷ rs) w (a, m, s) =
       by_test (lowers r) (λ e. rw e (lowers_here r rs e))
       (λ e.

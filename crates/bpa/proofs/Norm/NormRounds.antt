@@ -87,7 +87,7 @@ module _ (j : ℕ) (ns : List ℕ) where
 
   best_least : (rs : List Rule) (a : ℕ) (w : List ℕ) → Memᴰ {A = Rule} (record { job = j; move = a; after = w }) rs →
       all_known ns w ≡ true → Found (suc (sum_of ns w)) (best j ns rs)
-  best_least [] a w m k = absurd (Memᴰ.not_nil m)
+  best_least [] a w m k = absurd (Memᴰ.not-nil m)
   best_least (r ∷ rs) a w m k = ⊎_elim this (λ n. other (best_least rs a w n k)) (Memᴰ.cases_cons m)
     where
       this : ◌≡◌ {A = Rule} (record { job = j; move = a; after = w }) r → Found (suc (sum_of ns w)) (best j ns (r ∷ rs))
