@@ -1,1 +1,2 @@
 // Moves that tally alike. No code: definitions and theorems.
+#![tactic(auto)]

@@ -1,4 +1,5 @@
 // Leaves over byte slices.
+#![tactic(auto)]
 ghost use Rattle.std.specs.Prelude.{◌≡◌, [], ◌∷◌, ◌+◌, ◌-◌, ◌≤◌, ◌<◌, length, replicate};
 ghost use Rattle.area.specs.Areas.{IsByte, put, IsPut};
 ghost use Rattle.area.specs.Numbers.{number_at, low_first, IsNumber};
@@ -41,7 +42,9 @@ pub fn put(area: &mut [u8], at: usize, bytes: &[u8]) -> usize
     requires { at + length bytes.now ≤ length area.old }
     ensures { IsPut at bytes.now area.old result area.new }
 {
-    at + bytes::copy(bytes, &mut area[at..])
+    let next = at + bytes.len();
+    area[at..next].copy_from_slice(bytes);
+    next
 }
 
 // Zeros from a place up to another.

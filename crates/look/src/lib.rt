@@ -1,6 +1,7 @@
 // The program planlook: an image and pairs of plans from standard input; a line for the table, for each job and for each
 // pair to standard output. What is put into a line, and of which bytes that were read, is proved; that it is written, no
 // contract can say.
+#![tactic(auto)]
 mod reports;
 
 use libc::STDOUT_FILENO;

@@ -1,4 +1,5 @@
 // What planlook reads: the image, and pairs of plans.
+#![tactic(auto)]
 ghost use Rattle.std.specs.Prelude.{◌≡◌, ◌≤◌, length};
 ghost use Rattle.look_input.specs.Input.{block_got, image_got, ImageRead, plan_length, length_got, jobs_got, right_end, Reads, PairRead};
 

@@ -1,4 +1,5 @@
 // The rule of a job by which the n-th move goes that a plan shows.
+#![tactic(auto)]
 ghost use Rattle.rules.specs.Lists.{GoodList};
 ghost use Rattle.moves.specs.Moves.{IsNth};
 

@@ -1,4 +1,5 @@
 // Rows of jobs, 512 bytes for each of up to 24 jobs.
+#![tactic(auto)]
 pub mod expanding;
 
 ghost use Rattle.std.specs.Prelude.{◌≡◌, ◌∷◌, [], ◌<◌, length, get_or};

@@ -4,11 +4,13 @@ use Rattle.answer.proofs.RefusalChains.{refused_first, passed_first}
 use Rattle.answer.proofs.or_else.Statement.{statement}
 use Rattle.answer.proofs.or_else.Tie as tie
 
-returns : tie.Need-returns
-returns c = let a = c.before.args in sym (passed_first a.first a.then c.if1.true)
+returns : tie.Need-returns-then-first-eq0
+returns c = let a = c.before.args in sym (passed_first a.first a.then c.if-first-eq0.true)
 
-returns_2 : tie.Need-returns-2
-returns_2 c = let a = c.before.args in sym (refused_first a.first a.then c.if1.false)
+returns_2 : tie.Need-returns
+returns_2 c = let a = c.before.args in sym (refused_first a.first a.then c.if-first-eq0.false)
 
 pub or_else_spec : {M : Type 1} → statement M
-or_else_spec = tie.close (tie.spec returns returns_2)
+or_else_spec = tie.close (tie.spec
+    returns
+    returns_2)

@@ -24,7 +24,7 @@ small (suc n) h = search rules
 taken : (n : ℕ) → n < 256 → pos 0 -ℤ to_z w32 n ≡ signed n 0
 taken n h = ap (λ (z : ℤ). pos 0 -ℤ z) (to_z_pos w32 {n = n} (omega arith)) ∙ negative n
 
-sub_result : tie.Need-overflow-sub-result
+sub_result : tie.Need-overflow_sub-result
 sub_result c = rw (taken c.args.refusal c.ranges.refusal.fits) (small c.args.refusal c.ranges.refusal.fits)
 
 returns : tie.Need-returns
@@ -32,6 +32,6 @@ returns c = to_z-of_z (sub_result c) ∙ taken c.args.refusal c.ranges.refusal.f
 
 pub refused_spec : {M : Type 1} → statement M
 refused_spec = tie.close (tie.spec
-    (λ c. search rules)  -- cast-result
+    (λ c. search rules)
     sub_result
     returns)

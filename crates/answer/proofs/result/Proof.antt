@@ -10,5 +10,5 @@ returns c = to_z_pos w32 c.requires
 
 pub result_spec : {M : Type 1} → statement M
 result_spec = tie.close (tie.spec
-    (λ c. search rules)  -- cast-result
+    (λ c. search rules)
     returns)

@@ -9,42 +9,51 @@ use borrow.Author.Fill.{fill_more}
 use Rattle.area.proofs.clear.Statement.{statement}
 use Rattle.area.proofs.clear.Tie as tie
 
-abbrev invariant_loop : tie.invariant-loop
+abbrev invariant_loop : tie.invariant-loop-i
 invariant_loop area₀ i₀ area i = (i ≤ length area₀) × (length area ≡ length area₀) × (area ≡ replicate i 0 ++ drop i area₀)
 
-abbrev decreases_loop : tie.decreases-loop
+abbrev decreases_loop : tie.decreases-loop-i
 decreases_loop area₀ i₀ area i = length area₀ - i
 
-loop_holds : tie.Need-loop-init invariant_loop decreases_loop
+loop_holds : tie.Need-loop-i-init invariant_loop decreases_loop
 loop_holds c = (omega arith, refl, refl)
 
-slice_write_area : tie.Need-slice-write-area invariant_loop decreases_loop
+slice_write_area : tie.Need-bounds-area-i invariant_loop decreases_loop
 slice_write_area c = omega arith
 
-add_i : tie.Need-overflow-add-i invariant_loop decreases_loop
+add_i : tie.Need-overflow_add-i invariant_loop decreases_loop
 add_i c = omega arith
 
-loop_less : tie.Need-loop-smaller invariant_loop decreases_loop
+loop_less : tie.Need-loop-i-smaller invariant_loop decreases_loop
 loop_less c = omega arith
 
-loop_again : tie.Need-loop-preserved invariant_loop decreases_loop
+loop_again : tie.Need-loop-i-preserved invariant_loop decreases_loop
 loop_again c =
     let at_loop = c.before in
-    let below : at_loop.loop.i < length at_loop.before.args.area.now = omega arith in (
+    let below : at_loop.loop-i.i < length at_loop.before.args.area.now = omega arith in (
       omega arith,
-      simp length-set at_loop.loop.invariant.1,
-      rw at_loop.loop.invariant.2 (fill_more at_loop.loop.i 0 at_loop.before.args.area.now below),
+      simp length-set at_loop.loop-i.invariant.1,
+      rw at_loop.loop-i.invariant.2 (fill_more at_loop.loop-i.i 0 at_loop.before.args.area.now below),
     )
 
-same_length : tie.Need-same-length invariant_loop decreases_loop
-same_length c = c.before.loop.invariant.1
+same_length : tie.Need-shape_of-area invariant_loop decreases_loop
+same_length c = c.before.loop-i.invariant.1
 
 returns : tie.Need-returns invariant_loop decreases_loop
 returns c =
     let at_loop = c.before in
     let whole = at_loop.before.args.area.now in
-    let end : at_loop.loop.i ≡ length whole = omega arith in
-    at_loop.loop.invariant.2 ∙ ap (λ k. replicate k 0 ++ drop k whole) end ∙ rw (drop-length whole) (append-nil _)
+    let end : at_loop.loop-i.i ≡ length whole = omega arith in
+    at_loop.loop-i.invariant.2 ∙ ap (λ k. replicate k 0 ++ drop k whole) end ∙ rw (drop-length whole) (append-nil _)
 
 pub clear_spec : {M : Type 1} → statement M
-clear_spec = tie.close (tie.spec invariant_loop decreases_loop loop_holds slice_write_area add_i loop_less loop_again same_length returns)
+clear_spec = tie.close (tie.spec
+    invariant_loop
+    decreases_loop
+    loop_holds
+    slice_write_area
+    add_i
+    loop_less
+    loop_again
+    same_length
+    returns)

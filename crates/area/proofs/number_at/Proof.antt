@@ -8,13 +8,13 @@ use Rattle.area.specs.Numbers.{number_at}
 use Rattle.area.proofs.number_at.Statement.{statement}
 use Rattle.area.proofs.number_at.Tie as tie
 
-shared_slice_read_number : tie.Need-shared-slice-read-number
+shared_slice_read_number : tie.Need-bounds-bytes-at
 shared_slice_read_number c = search rules
 
-add_number : tie.Need-overflow-add-number
+add_number : tie.Need-overflow_add-at
 add_number c = search rules
 
-shared_slice_read_number_2 : tie.Need-shared-slice-read-number-2
+shared_slice_read_number_2 : tie.Need-bounds-bytes-at-2
 shared_slice_read_number_2 c = search rules
 
 number_requires : tie.Need-number-requires
@@ -29,4 +29,9 @@ returns c =
 pub number_at_spec : {M : Type 1} → statement M
 number_at_spec =
     tie.close
-    (tie.spec shared_slice_read_number add_number shared_slice_read_number_2 number_requires returns)
+    (tie.spec
+    shared_slice_read_number
+    add_number
+    shared_slice_read_number_2
+    number_requires
+    returns)

@@ -11,22 +11,22 @@ use native.Mathlib.Omega.{arith}
 use Rattle.area.proofs.put_two.Statement.{statement}
 use Rattle.area.proofs.put_two.Tie as tie
 
-add_next : tie.Need-overflow-add-next
+add_next : tie.Need-overflow_add-next
 add_next c = search rules
 
-cast_area : tie.Need-overflow-cast-area
+cast_area : tie.Need-overflow_cast-area
 cast_area c = search rules
 
-slice_write_area : tie.Need-slice-write-area
+slice_write_area : tie.Need-bounds-area-at
 slice_write_area c = search rules
 
-cast_area_2 : tie.Need-overflow-cast-area-2
+cast_area_2 : tie.Need-overflow_cast-area-2
 cast_area_2 c = search rules
 
-slice_write_area_2 : tie.Need-slice-write-area-2
+slice_write_area_2 : tie.Need-bounds-area-next
 slice_write_area_2 c = search rules
 
-same_length : tie.Need-same-length
+same_length : tie.Need-shape_of-area
 same_length c = search rules
 
 returns : tie.Need-returns

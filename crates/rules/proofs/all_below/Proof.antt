@@ -35,65 +35,65 @@ module _ (m b n : ℕ) (rest : Bool) where
 and-true : (a b : Bool) → b ≡ true → (a && b) ≡ a
 and-true a b e = by_test a (λ t. rw t e ∙ sym t) (λ f. rw f)
 
-abbrev invariant_loop : tie.invariant-loop
+abbrev invariant_loop : tie.invariant-loop-k
 invariant_loop bound bytes most₀ k₀ most k = (k ≤ length bytes) × (all_below bound bytes ≡ (ltb most bound && all_below bound (drop k bytes)))
 
-abbrev decreases_loop : tie.decreases-loop
+abbrev decreases_loop : tie.decreases-loop-k
 decreases_loop bound bytes most₀ k₀ most k = length bytes - k
 
-returns : tie.Need-returns invariant_loop decreases_loop
-returns c = sym (below_end c.before.before.args.bytes.now 0 c.before.before.args.bound (omega (arith, c.if1.true)))
+returns : tie.Need-returns-then-bytes-eq0 invariant_loop decreases_loop
+returns c = sym (below_end c.before.before.args.bytes.now 0 c.before.before.args.bound (omega (arith, c.if-bytes-eq0.true)))
 
-loop_holds : tie.Need-loop-init invariant_loop decreases_loop
+loop_holds : tie.Need-loop-k-init invariant_loop decreases_loop
 loop_holds c =
     let s = c.before.before in
     let p = s.args.bytes.now in
     let n = s.args.bound in
-    let e = below_next p 0 n (omega (arith, c.if1.false)) in (
+    let e = below_next p 0 n (omega (arith, c.if-bytes-eq0.false)) in (
       omega arith,
       e ∙ sym (ap (λ (b : Bool). ltb 0 n && b) e ∙ greater_tells 0 (get_or p 0 0) n (all_below n (drop 1 p)) (omega arith)),
     )
 
-loop_again : tie.Need-loop-preserved invariant_loop decreases_loop
+loop_again : tie.Need-loop-k-preserved invariant_loop decreases_loop
 loop_again c =
     let v = c.before.before.before in
     let s = v.before.before.before in
     let p = s.args.bytes.now in
     let n = s.args.bound in
-    let m = v.loop.most in
-    let b = get_or p v.loop.k 0 in
-    let rest = all_below n (drop (v.loop.k + 1) p) in
-    let e = v.loop.invariant.1 ∙ ap (λ (r : Bool). ltb m n && r) (below_next p v.loop.k n c.before.before.loop_test.true) in (
+    let m = v.loop-k.most in
+    let b = get_or p v.loop-k.k 0 in
+    let rest = all_below n (drop (v.loop-k.k + 1) p) in
+    let e = v.loop-k.invariant.1 ∙ ap (λ (r : Bool). ltb m n && r) (below_next p v.loop-k.k n c.before.before.loop-k-test.true) in (
       omega arith,
-      ⊎_elim (λ w. e ∙ greater_tells m b n rest (omega (arith, w.0.taken)) ∙ ap (λ (j : ℕ). ltb j n && rest) (sym w.2))
-          (λ w. e ∙ lesser_goes m b n rest w.0.left ∙ ap (λ (j : ℕ). ltb j n && rest) (sym w.1)) c.if2.branch,
+      ⊎_elim (λ w. e ∙ greater_tells m b n rest (omega (arith, w.0.true)) ∙ ap (λ (j : ℕ). ltb j n && rest) (sym w.2))
+          (λ w. e ∙ lesser_goes m b n rest w.0.left ∙ ap (λ (j : ℕ). ltb j n && rest) (sym w.1)) c.if-most-bytes.branch,
     )
 
 -- all are passed, and the greatest tells
-all_passed : (c : tie.After-loop invariant_loop decreases_loop) →
+all_passed : (c : tie.After-loop-k invariant_loop decreases_loop) →
     let s = c.before.before.before.before in
-    all_below s.args.bound s.args.bytes.now ≡ ltb c.before.loop.most s.args.bound
+    all_below s.args.bound s.args.bytes.now ≡ ltb c.before.loop-k.most s.args.bound
 all_passed c =
     let v = c.before in
     let s = v.before.before.before in
     let n = s.args.bound in
     let p = s.args.bytes.now in
-    v.loop.invariant.1
-    ∙ and-true (ltb v.loop.most n) (all_below n (drop v.loop.k p)) (below_end p v.loop.k n c.loop_test.false)
+    v.loop-k.invariant.1
+    ∙ and-true (ltb v.loop-k.most n) (all_below n (drop v.loop-k.k p)) (below_end p v.loop-k.k n c.loop-k-test.false)
 
-returns_2 : tie.Need-returns-2 invariant_loop decreases_loop
+returns_2 : tie.Need-returns-then-wide-bound invariant_loop decreases_loop
 returns_2 c =
     let w = c.before in
     let v = w.before.before in
     let n = v.before.before.before.args.bound in
-    sym (all_passed w.before ∙ lt-ltb v.loop.most n (omega (arith, c.if3.true, w.wide.ensures.is)))
+    sym (all_passed w.before ∙ lt-ltb v.loop-k.most n (omega (arith, c.if-wide-bound.true, w.wide.ensures.is)))
 
-returns_3 : tie.Need-returns-3 invariant_loop decreases_loop
+returns_3 : tie.Need-returns invariant_loop decreases_loop
 returns_3 c =
     let w = c.before in
     let v = w.before.before in
     let n = v.before.before.before.args.bound in
-    sym (all_passed w.before ∙ le-ltb v.loop.most n (omega (arith, c.if3.false, w.wide.ensures.is)))
+    sym (all_passed w.before ∙ le-ltb v.loop-k.most n (omega (arith, c.if-wide-bound.false, w.wide.ensures.is)))
 
 pub all_below_spec : {M : Type 1} → statement M
 all_below_spec =
@@ -103,11 +103,11 @@ all_below_spec =
     decreases_loop
     returns
     loop_holds
-    (λ c. omega arith)  -- shared-slice-read-if2
-    (λ c. omega arith)  -- shared-slice-read-most
-    (λ c. omega arith)  -- add-k
-    (λ c. omega arith)  -- loop-less
+    (λ c. omega arith)
+    (λ c. omega arith)
+    (λ c. omega arith)
+    (λ c. omega arith)
     loop_again
-    (λ c κs. tt)  -- wide-requires
+    (λ c κs. tt)
     returns_2
     returns_3)

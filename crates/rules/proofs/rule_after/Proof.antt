@@ -9,31 +9,31 @@ use Rattle.rules.proofs.PlaceLaws.{room, after_at, after_length}
 use Rattle.rules.proofs.rule_after.Statement.{statement}
 use Rattle.rules.proofs.rule_after.Tie as tie
 
-mul_start : tie.Need-overflow-mul-start
+mul_start : tie.Need-overflow_mul-start
 mul_start c =
     let s = c.before in
     omega (arith, room s.args.rules.now s.args.i s.requires.inside)
 
-add_start : tie.Need-overflow-add-start
+add_start : tie.Need-overflow_add-start
 add_start c =
     let s = c.before in
     omega (arith, room s.args.rules.now s.args.i s.requires.inside)
 
-rule_len_requires : tie.Need-rule-len-requires
+rule_len_requires : tie.Need-rule_len-requires
 rule_len_requires c κs = search rules
 
-add_end : tie.Need-overflow-add-end
+add_end : tie.Need-overflow_add-end
 add_end c =
     let s = c.before.before in
     omega (arith, room s.args.rules.now s.args.i s.requires.inside)
 
-sub_result : tie.Need-overflow-sub-result
+sub_result : tie.Need-slice_bounds-result-count
 sub_result c = search rules
 
-part_result_start : tie.Need-slice-bounds-result-start
+part_result_start : tie.Need-slice_bounds-result-start
 part_result_start c = search rules
 
-part_result_end : tie.Need-slice-bounds-result-end
+part_result_end : tie.Need-slice_bounds-result-end
 part_result_end c =
     let s = c.before.before in
     omega (arith, room s.args.rules.now s.args.i s.requires.inside)
@@ -44,7 +44,7 @@ returns c =
     let rs = s.args.rules.now in
     let i = s.args.i in
     ap (λ (m : ℕ). take m (drop (8 * i + 3) rs))
-    (add-sub_cancel_left (8 * i + 3) c.before.rule_len.result ∙ c.before.rule_len.ensures.is ∙ after_length rs i s.requires.few s.requires.inside)
+    (add-sub_cancel_left (8 * i + 3) c.before.rule_len.result-1 ∙ c.before.rule_len.ensures.is ∙ after_length rs i s.requires.few s.requires.inside)
     ∙ sym (after_at rs i s.requires.few)
 
 pub rule_after_spec : {M : Type 1} → statement M

@@ -6,12 +6,12 @@ use Rattle.rules.proofs.PlaceLaws.{room, job_at}
 use Rattle.rules.proofs.rule_job.Statement.{statement}
 use Rattle.rules.proofs.rule_job.Tie as tie
 
-mul_wide : tie.Need-overflow-mul-wide
+mul_wide : tie.Need-overflow_mul-i
 mul_wide c =
     let s = c.before in
     omega (arith, room s.args.rules.now s.args.i s.requires)
 
-shared_slice_read_wide : tie.Need-shared-slice-read-wide
+shared_slice_read_wide : tie.Need-bounds-rules-i
 shared_slice_read_wide c =
     let s = c.before.before in
     omega (arith, room s.args.rules.now s.args.i s.requires)
@@ -25,4 +25,8 @@ returns c =
     record { is = c.wide.ensures.is ∙ sym (job_at s.args.rules.now s.args.i); small = c.wide.ensures.small }
 
 pub rule_job_spec : {M : Type 1} → statement M
-rule_job_spec = tie.close (tie.spec mul_wide shared_slice_read_wide wide_requires returns)
+rule_job_spec = tie.close (tie.spec
+    mul_wide
+    shared_slice_read_wide
+    wide_requires
+    returns)

@@ -6,17 +6,17 @@ use Rattle.rules.proofs.PlaceLaws.{room, after_length}
 use Rattle.rules.proofs.rule_len.Statement.{statement}
 use Rattle.rules.proofs.rule_len.Tie as tie
 
-mul_wide : tie.Need-overflow-mul-wide
+mul_wide : tie.Need-overflow_mul-i
 mul_wide c =
     let s = c.before in
     omega (arith, room s.args.rules.now s.args.i s.requires.inside)
 
-add_wide : tie.Need-overflow-add-wide
+add_wide : tie.Need-overflow_add-i
 add_wide c =
     let s = c.before in
     omega (arith, room s.args.rules.now s.args.i s.requires.inside)
 
-shared_slice_read_wide : tie.Need-shared-slice-read-wide
+shared_slice_read_wide : tie.Need-bounds-rules-i
 shared_slice_read_wide c =
     let s = c.before.before in
     omega (arith, room s.args.rules.now s.args.i s.requires.inside)
@@ -33,4 +33,9 @@ returns c =
     }
 
 pub rule_len_spec : {M : Type 1} → statement M
-rule_len_spec = tie.close (tie.spec mul_wide add_wide shared_slice_read_wide wide_requires returns)
+rule_len_spec = tie.close (tie.spec
+    mul_wide
+    add_wide
+    shared_slice_read_wide
+    wide_requires
+    returns)

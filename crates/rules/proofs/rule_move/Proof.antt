@@ -15,12 +15,12 @@ pub rule_move_spec : {M : Type 1} → statement M
 rule_move_spec =
     tie.close
     (tie.spec
-    (λ c. let s = c.before in omega (arith, room s.args.rules.now s.args.i s.requires))  -- mul-number
-    (λ c. let s = c.before in omega (arith, room s.args.rules.now s.args.i s.requires))  -- add-number
-    (λ c. let s = c.before.before in omega (arith, room s.args.rules.now s.args.i s.requires))  -- shared-slice-read-number
-    (λ c. let s = c.before.before in omega (arith, room s.args.rules.now s.args.i s.requires))  -- mul-number-2
-    (λ c. let s = c.before.before in omega (arith, room s.args.rules.now s.args.i s.requires))  -- add-number-2
-    (λ c. let s = c.before.before.before in omega (arith, room s.args.rules.now s.args.i s.requires))  -- shared-slice-read-number-2
-    (λ c κs. search rules)  -- number-requires
-    (λ c. omega (arith, c.number.ensures.small))  -- cast-result
+    (λ c. let s = c.before in omega (arith, room s.args.rules.now s.args.i s.requires))
+    (λ c. let s = c.before in omega (arith, room s.args.rules.now s.args.i s.requires))
+    (λ c. let s = c.before.before in omega (arith, room s.args.rules.now s.args.i s.requires))
+    (λ c. let s = c.before.before in omega (arith, room s.args.rules.now s.args.i s.requires))
+    (λ c. let s = c.before.before in omega (arith, room s.args.rules.now s.args.i s.requires))
+    (λ c. let s = c.before.before.before in omega (arith, room s.args.rules.now s.args.i s.requires))
+    (λ c κs. search rules)
+    (λ c. omega (arith, c.number.ensures.small))
     returns)

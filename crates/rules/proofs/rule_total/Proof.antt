@@ -9,4 +9,5 @@ unfolding rule_count
 returns c = refl
 
 pub rule_total_spec : {M : Type 1} → statement M
-rule_total_spec = tie.close (tie.spec returns)
+rule_total_spec = tie.close (tie.spec
+    returns)

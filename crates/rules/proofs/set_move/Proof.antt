@@ -25,9 +25,9 @@ pub set_move_spec : {M : Type 1} → statement M
 set_move_spec =
     tie.close
     (tie.spec
-    (λ c. search rules)  -- cast-place
-    (λ c. search rules)  -- slice-write-place
-    (λ c. search rules)  -- cast-place-2
-    (λ c. search rules)  -- slice-write-place-2
-    (λ c. search rules)  -- same-length
+    (λ c. search rules)
+    (λ c. search rules)
+    (λ c. search rules)
+    (λ c. search rules)
+    (λ c. search rules)
     returns)
