@@ -23,8 +23,8 @@ loop_again c =
     let l = v.before.args.left.now in
     let r = v.before.args.right.now in (
       omega arith,
-      ⊎_elim (λ w. place_unequal l r c.if-left-i.same v.loop-i.i w.1 w.0.true)
-          (λ w. place_equal l r v.loop-i.same c.if-left-i.same v.loop-i.i v.loop-i.invariant.1 w.1 w.0.left) c.if-left-i.branch,
+      ⊎_elim (λ w. place_unequal l r c.if-left-i.same v.loop-i.i w.same-is w.if-left-i.true)
+          (λ w. place_equal l r v.loop-i.same c.if-left-i.same v.loop-i.i v.loop-i.invariant.1 w.same-is w.if-left-i.false) c.if-left-i.branch-raw,
     )
 
 returns : tie.Need-returns invariant_loop decreases_loop

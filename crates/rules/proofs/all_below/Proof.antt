@@ -65,8 +65,8 @@ loop_again c =
     let rest = all_below n (drop (v.loop-k.k + 1) p) in
     let e = v.loop-k.invariant.1 ∙ ap (λ (r : Bool). ltb m n && r) (below_next p v.loop-k.k n c.before.before.loop-k-test.true) in (
       omega arith,
-      ⊎_elim (λ w. e ∙ greater_tells m b n rest (omega (arith, w.0.true)) ∙ ap (λ (j : ℕ). ltb j n && rest) (sym w.2))
-          (λ w. e ∙ lesser_goes m b n rest w.0.left ∙ ap (λ (j : ℕ). ltb j n && rest) (sym w.1)) c.if-most-bytes.branch,
+      ⊎_elim (λ w. e ∙ greater_tells m b n rest (omega (arith, w.if-most-bytes.true)) ∙ ap (λ (j : ℕ). ltb j n && rest) (sym w.most-is))
+          (λ w. e ∙ lesser_goes m b n rest w.if-most-bytes.false ∙ ap (λ (j : ℕ). ltb j n && rest) (sym w.most-is)) c.if-most-bytes.branch-raw,
     )
 
 -- all are passed, and the greatest tells

@@ -44,7 +44,7 @@ returns c =
     let rs = s.args.rules.now in
     let i = s.args.i in
     ap (λ (m : ℕ). take m (drop (8 * i + 3) rs))
-    (add-sub_cancel_left (8 * i + 3) c.before.rule_len.result-1 ∙ c.before.rule_len.ensures.is ∙ after_length rs i s.requires.few s.requires.inside)
+    (add-sub_cancel_left (8 * i + 3) c.before.rule_len.result ∙ c.before.rule_len.ensures.is ∙ after_length rs i s.requires.few s.requires.inside)
     ∙ sym (after_at rs i s.requires.few)
 
 pub rule_after_spec : {M : Type 1} → statement M

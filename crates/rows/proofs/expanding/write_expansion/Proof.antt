@@ -19,7 +19,7 @@ abbrev decreases_loop : tie.decreases-loop-i
 decreases_loop rows lens plan out₀ at end₀ i₀ out end i = length plan - i
 
 loop_holds : tie.Need-loop-i-init invariant_loop decreases_loop
-loop_holds c = let a = c.before.before.before.args in writing_first (row a.lens.now a.rows.now) a.plan.now a.out-1.now a.at
+loop_holds c = let a = c.before.before.before.args in writing_first (row a.lens.now a.rows.now) a.plan.now a.out.now a.at
 
 shared_slice_read_wide : tie.Need-bounds-plan-i invariant_loop decreases_loop
 shared_slice_read_wide c = omega arith
@@ -38,21 +38,21 @@ element_copy_out_len c =
     let v = c.before.before.before.loop-i in
     let s = c.before.before.before.before.before.before.before in
     let a = s.args in
-    omega (arith, job_small a.lens.now a.rows.now a.plan.now s.requires.readable v.i (omega arith) c.wide-job.result c.wide-job.ensures.is)
+    omega (arith, job_small a.lens.now a.rows.now a.plan.now s.requires.0 v.i (omega arith) c.wide-job.result c.wide-job.ensures.is)
 
 cast_len : tie.Need-overflow_cast-len invariant_loop decreases_loop
 cast_len c =
     let v = c.before.before.before.before.loop-i in
     let s = c.before.before.before.before.before.before.before.before in
     let a = s.args in
-    omega (arith, row_short a.lens.now a.rows.now a.plan.now s.requires.readable v.i (omega arith) c.before.wide-job.result c.before.wide-job.ensures.is)
+    omega (arith, row_short a.lens.now a.rows.now a.plan.now s.requires.0 v.i (omega arith) c.before.wide-job.result c.before.wide-job.ensures.is)
 
 add_stop : tie.Need-overflow_add-stop invariant_loop decreases_loop
 add_stop c =
     let v = c.before.before.before.before.loop-i in
     let s = c.before.before.before.before.before.before.before.before in
     let a = s.args in
-    omega (arith, row_short a.lens.now a.rows.now a.plan.now s.requires.readable v.i (omega arith) c.before.wide-job.result c.before.wide-job.ensures.is, c.before.wide-job.ensures.small)
+    omega (arith, row_short a.lens.now a.rows.now a.plan.now s.requires.0 v.i (omega arith) c.before.wide-job.result c.before.wide-job.ensures.is, c.before.wide-job.ensures.small)
 
 sub_put : tie.Need-slice_bounds-put-count invariant_loop decreases_loop
 sub_put c = omega arith
@@ -65,7 +65,7 @@ part_put_end c =
     let v = c.before.before.before.before.before.loop-i in
     let s = c.before.before.before.before.before.before.before.before.before in
     let a = s.args in
-    omega (arith, row_room a.lens.now a.rows.now a.plan.now s.requires.readable v.i (omega arith) c.before.before.wide-job.result c.before.before.wide-job.ensures.is)
+    omega (arith, row_room a.lens.now a.rows.now a.plan.now s.requires.0 v.i (omega arith) c.before.before.wide-job.result c.before.before.wide-job.ensures.is)
 
 put_requires : tie.Need-put-end-requires invariant_loop decreases_loop
 put_requires c κs =
@@ -76,7 +76,7 @@ put_requires c κs =
     let is = row_part a.lens.now a.rows.now x.result ∙ ap (row a.lens.now a.rows.now) x.ensures.is in
     let h : v.i < length a.plan.now = omega (arith, c.before.before.before.before.before.loop-i-test.true) in
     let l = lent a.lens.now a.rows.now x.result in
-    row_fits (row a.lens.now a.rows.now) a.plan.now a.out-1.now a.at s.requires.plan_in_bounds v.out v.end v.i v.invariant h l is
+    row_fits (row a.lens.now a.rows.now) a.plan.now a.out.now a.at s.requires.1 v.out v.end v.i v.invariant h l is
 
 add_i : tie.Need-overflow_add-i invariant_loop decreases_loop
 add_i c = omega arith
@@ -94,9 +94,9 @@ loop_again c =
     let h : v.i < length a.plan.now = omega (arith, c.before.before.before.before.before.before.before.before.loop-i-test.true) in
     let l = lent a.lens.now a.rows.now x.result in
     let said = c.before.before.put-end in
-    subst (λ (o : List ℕ). Writing (row a.lens.now a.rows.now) a.plan.now a.out-1.now a.at o said.result (v.i + 1)) (sym said.ensures.output)
-    (subst (λ (k : ℕ). Writing (row a.lens.now a.rows.now) a.plan.now a.out-1.now a.at (put v.end l v.out) k (v.i + 1)) (sym said.ensures.next)
-    (writing_more (row a.lens.now a.rows.now) a.plan.now a.out-1.now a.at s.requires.plan_in_bounds v.out v.end v.i v.invariant h l is))
+    subst (λ (o : List ℕ). Writing (row a.lens.now a.rows.now) a.plan.now a.out.now a.at o said.result (v.i + 1)) (sym said.ensures.output)
+    (subst (λ (k : ℕ). Writing (row a.lens.now a.rows.now) a.plan.now a.out.now a.at (put v.end l v.out) k (v.i + 1)) (sym said.ensures.next)
+    (writing_more (row a.lens.now a.rows.now) a.plan.now a.out.now a.at s.requires.1 v.out v.end v.i v.invariant h l is))
 
 same_length : tie.Need-shape_of-out invariant_loop decreases_loop
 same_length c = c.before.loop-i.invariant.size
@@ -105,7 +105,7 @@ returns : tie.Need-returns invariant_loop decreases_loop
 returns c =
     let v = c.before.loop-i in
     let a = c.before.before.before.before.before.args in
-    writing_last (row a.lens.now a.rows.now) a.plan.now a.out-1.now a.at v.out v.end v.i c.loop-i-test.false v.invariant
+    writing_last (row a.lens.now a.rows.now) a.plan.now a.out.now a.at v.out v.end v.i c.loop-i-test.false v.invariant
 
 pub write_expansion_spec : {M : Type 1} → statement M
 write_expansion_spec =
