@@ -41,7 +41,7 @@ impl Reader {
         let size = 8 * more;
         let to = from + size;
         let end = 2 + size;
-        bytes::copy(&block[2..end], &mut rules[from..to]);
+        rules[from..to].copy_from_slice(&block[2..end]);
         Reader {
             jobs: jobs,
             block: number + 1,

@@ -24,9 +24,9 @@ pub move_at_spec : {M : Type 1} → statement M
 move_at_spec =
     tie.close
     (tie.spec
-    (λ c. search rules)  -- shared-slice-read-number
-    (λ c. search rules)  -- add-number
-    (λ c. search rules)  -- shared-slice-read-number-2
-    (λ c κs. search rules)  -- number-requires
-    (λ c. search rules)  -- cast-result
+    (λ c. search rules)
+    (λ c. search rules)
+    (λ c. search rules)
+    (λ c κs. search rules)
+    (λ c. search rules)
     returns)

@@ -3,7 +3,8 @@ use mathlib.Core.Path.{◌≡◌, ap, ◌∙◌}
 use mathlib.Core.Bool.{Bool, true, false, ◌||◌}
 use mathlib.Core.List.{List}
 use mathlib.Core.Logic.{⊎_elim}
-use Prim.Native.Nat.{ℕ, ◌+◌, ◌*◌, ◌/◌}
+use Prim.Native.Nat.{ℕ, ◌+◌, ◌*◌, ◌/◌, ◌%◌}
+use borrow.Author.Tests.{lt-ltb, le-ltb}
 use native.Mathlib.Omega.{arith}
 use lib.ListN.{length}
 use Rattle.bpa.proofs.Basics.Cases.{or_left, or_right}
@@ -12,57 +13,57 @@ use Rattle.alike_list.proofs.ListRefusals.{too_many, unfinished, whole_pairs, cl
 use Rattle.alike_list.proofs.read_list.Statement.{statement}
 use Rattle.alike_list.proofs.read_list.Tie as tie
 
-returns : tie.Need-returns
+returns : tie.Need-returns-then-count-gt32
 returns c =
     let ls = c.before.before.args.list.now in
-    ⊎_elim (λ x. too_many ls (omega (arith, x.taken)) _ _ _) (λ x. unfinished ls x.1.taken _ _ _) c.if1.branch
+    ⊎_elim (λ x. too_many ls (omega (arith, x.if-count-gt32.true)) _ _ _) (λ x. unfinished ls (lt-ltb 0 (length ls % 4) x.if-list-gt0.true) _ _ _) c.then-count-gt32.branch-raw
 
 -- a list of whole pairs
-module _ (c : tie.Else2) where
+module _ (c : tie.Else-list-gt0) where
   abbrev ls : List ℕ
   ls = c.before.before.before.args.list.now
 
   whole : WholePairs ls (length ls / 4)
-  whole = whole_pairs ls c.before.before.before.requires (omega (arith, c.before.if1.false)) c.if2.false
+  whole = whole_pairs ls c.before.before.before.requires (omega (arith, c.before.if-count-gt32.false)) (le-ltb 0 (length ls % 4) c.if-list-gt0.false)
 
 -- once both rows are read
-module _ (c : tie.After-tos) where
-  abbrev from_read : tie.After-from-moves
+module _ (c : tie.After-tos-1) where
+  abbrev from_read : tie.After-from_moves-from
   from_read = c.before.before.before.before
 
-  abbrev early : tie.Else2
+  abbrev early : tie.Else-list-gt0
   early = from_read.before
 
-  returns_clash : (from_read.from_moves.result.clash || c.before.to_moves.result.clash) ≡ true →
-      (n : ℕ) → ReadsList (ls early) 13 from_read.from_moves.result.row c.before.to_moves.result.row n
+  returns_clash : (from_read.from_moves-from.result.clash || c.before.to_moves-to.result.clash) ≡ true →
+      (n : ℕ) → ReadsList (ls early) 13 from_read.from_moves-from.result.row c.before.to_moves-to.result.row n
   returns_clash =
-      clashing (ls early) early.before.before.before.pre (omega (arith, early.before.if1.left)) early.if2.left from_read.from_moves.ensures c.before.to_moves.ensures
+      clashing (ls early) early.before.before.before.requires (omega (arith, early.if-count-gt32.false)) (le-ltb 0 (length (ls early) % 4) early.if-list-gt0.false) from_read.from_moves-from.ensures c.before.to_moves-to.ensures
 
-  returns_none : (from_read.from_moves.result.clash || c.before.to_moves.result.clash) ≡ false →
-      ReadsList (ls early) 0 from_read.from_moves.result.row c.before.to_moves.result.row ((length (ls early) / 4 + 15) / 16 * 16)
+  returns_none : (from_read.from_moves-from.result.clash || c.before.to_moves-to.result.clash) ≡ false →
+      ReadsList (ls early) 0 from_read.from_moves-from.result.row c.before.to_moves-to.result.row ((length (ls early) / 4 + 15) / 16 * 16)
   returns_none =
-      accepted_list (ls early) early.before.before.before.pre (omega (arith, early.before.if1.left)) early.if2.left from_read.from_moves.ensures c.before.to_moves.ensures
+      accepted_list (ls early) early.before.before.before.requires (omega (arith, early.if-count-gt32.false)) (le-ltb 0 (length (ls early) % 4) early.if-list-gt0.false) from_read.from_moves-from.ensures c.before.to_moves-to.ensures
 
-returns_2 : tie.Need-returns-2
+returns_2 : tie.Need-returns-then-from
 returns_2 c =
     let d = c.before in
-    let a = (from_read d).from_moves.result.clash in
-    let b = d.before.to_moves.result.clash in
-    returns_clash d (⊎_elim (λ x. or_left a b x.taken) (λ x. or_right a b x.1.taken) c.if3.branch) _
+    let a = (from_read d).from_moves-from.result.clash in
+    let b = d.before.to_moves-to.result.clash in
+    returns_clash d (⊎_elim (λ x. or_left a b x.if-from.true) (λ x. or_right a b x.if-to.true) c.then-from.branch-raw) _
 
-returns_3 : tie.Need-returns-3
+returns_3 : tie.Need-returns-else-to
 returns_3 c =
     let d = c.before.before in
-    returns_none d (ap (λ (x : Bool). x || d.before.to_moves.result.clash) c.before.if3.false ∙ c.if4.false)
+    returns_none d (ap (λ (x : Bool). x || d.before.to_moves-to.result.clash) c.before.if-from.false ∙ c.if-to.false)
 
 pub read_list_spec : {M : Type 1} → statement M
 read_list_spec =
     tie.close
     (tie.spec
     returns
-    (λ c. omega (arith, (whole c).few))  -- add-end
-    (λ c. omega (arith, (whole c).few))  -- mul-end
-    (λ c κs. whole c)  -- from-moves-requires
-    (λ c κs. let d = c.before.before in (whole d.before, d.from_moves.ensures.filled))  -- to-moves-requires
+    (λ c. omega (arith, (whole c).few))
+    (λ c. omega (arith, (whole c).few))
+    (λ c κs. whole c)
+    (λ c κs. let d = c.before.before in (whole d.before, d.from_moves-from.ensures.filled))
     returns_2
     returns_3)

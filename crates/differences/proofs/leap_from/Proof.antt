@@ -9,22 +9,26 @@ use Rattle.differences.proofs.leap_from.Tie as tie
 leap_requires : tie.Need-leap-requires
 leap_requires c κs =
     let a = c.before.before.before.args in
-    omega (arith, ap length (side_behind a.behind a.rows.now a.rest.now c.if1.true))
+    omega (arith, ap length (side_behind a.behind a.rows.now a.rest.now c.if-behind.true))
 
-returns : tie.Need-returns
+returns : tie.Need-returns-then-behind
 returns c =
     let a = c.before.before.before.before.args in
-    rw (side_behind a.behind a.rows.now a.rest.now c.before.if1.true) c.leap.ensures
+    rw (side_behind a.behind a.rows.now a.rest.now c.before.if-behind.true) c.leap.ensures
 
 leap_requires_2 : tie.Need-leap-requires-2
 leap_requires_2 c κs =
     let a = c.before.before.before.args in
-    omega (arith, ap length (side_in_rows a.behind a.rows.now a.rest.now c.if1.false))
+    omega (arith, ap length (side_in_rows a.behind a.rows.now a.rest.now c.if-behind.false))
 
-returns_2 : tie.Need-returns-2
+returns_2 : tie.Need-returns
 returns_2 c =
     let a = c.before.before.before.before.args in
-    rw (side_in_rows a.behind a.rows.now a.rest.now c.before.if1.false) c.leap2.ensures
+    rw (side_in_rows a.behind a.rows.now a.rest.now c.before.if-behind.false) c.leap-2.ensures
 
 pub leap_from_spec : {M : Type 1} → statement M
-leap_from_spec = tie.close (tie.spec leap_requires returns leap_requires_2 returns_2)
+leap_from_spec = tie.close (tie.spec
+    leap_requires
+    returns
+    leap_requires_2
+    returns_2)

@@ -12,18 +12,18 @@ returns c =
     let low = chain.before.before.before.before in
     let start = low.before.before in
     let a = start.args in
-    facts_made a.jobs a.rules.now a.norms.now a.sums.now _ mark.mark_steps.result chain.chain_rules.result
-    low.lowering_rules.result order.order.result c.gather.result start.requires.0 start.requires.1.0 low.lowering_rules.ensures
-    chain.chain_rules.ensures mark.mark_steps.ensures order.order.ensures.1 c.gather.ensures
+    facts_made a.jobs a.rules.now a.norms.now a.sums.now _ mark.mark_steps-marks.result chain.chain_rules-first.result
+    low.lowering_rules-low.result order.order-ord.result c.gather.result start.requires.0 start.requires.1.0 low.lowering_rules-low.ensures
+    chain.chain_rules-first.ensures mark.mark_steps-marks.ensures order.order-ord.ensures.1 c.gather.ensures
 
 pub facts_of_spec : {M : Type 1} → statement M
 facts_of_spec =
     tie.close
     (tie.spec
-    (λ c κs. search rules)  -- lowering-rules-requires
-    (λ c κs. search rules)  -- repeated-rules-requires
-    (λ c κs. search rules)  -- chain-rules-requires
-    (λ c κs. search rules)  -- mark-steps-requires
-    (λ c κs. search rules)  -- order-requires
-    (λ c κs. search rules)  -- gather-requires
+    (λ c κs. search rules)
+    (λ c κs. search rules)
+    (λ c κs. search rules)
+    (λ c κs. search rules)
+    (λ c κs. search rules)
+    (λ c κs. search rules)
     returns)

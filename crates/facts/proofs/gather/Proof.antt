@@ -8,20 +8,20 @@ use Rattle.facts.proofs.Columns.{Filled, filled_none, filled_more, filled_all}
 use Rattle.facts.proofs.gather.Statement.{statement}
 use Rattle.facts.proofs.gather.Tie as tie
 
-abbrev invariant_loop : tie.invariant-loop
+abbrev invariant_loop : tie.invariant-loop-j
 invariant_loop jobs norms marks first low ord out₀ j₀ out j = (j ≤ 24) × Filled jobs norms marks first low ord out j
 
-abbrev decreases_loop : tie.decreases-loop
+abbrev decreases_loop : tie.decreases-loop-j
 decreases_loop jobs norms marks first low ord out₀ j₀ out j = 24 - j
 
-loop_holds : tie.Need-loop-init invariant_loop decreases_loop
+loop_holds : tie.Need-loop-j-init invariant_loop decreases_loop
 loop_holds c =
     let a = c.args in (
       omega arith,
       filled_none a.jobs a.norms.now a.marks.now a.first.now a.low.now a.ord.now (replicate 121 0) refl,
     )
 
-loop_again : tie.Need-loop-preserved invariant_loop decreases_loop
+loop_again : tie.Need-loop-j-preserved invariant_loop decreases_loop
 loop_again c =
     let norm = c.before.before.before.before.before.before.before in
     let first = c.before.before.before.before in
@@ -29,18 +29,18 @@ loop_again c =
     let at = norm.before.before.before in
     let a = at.before.args in (
       omega arith,
-      filled_more a.jobs a.norms.now a.marks.now a.first.now a.low.now a.ord.now at.loop.out at.loop.j
-          norm.wide_norm.result (get_or a.marks.now at.loop.j 0) first.wide.result low.wide2.result c.wide3.result
-          (omega arith) at.loop.invariant.1 norm.wide_norm.ensures refl first.wide.ensures.is low.wide2.ensures.is
-          c.wide3.ensures.is,
+      filled_more a.jobs a.norms.now a.marks.now a.first.now a.low.now a.ord.now at.loop-j.out at.loop-j.j
+          norm.wide_norm.result (get_or a.marks.now at.loop-j.j 0) first.wide.result low.wide-in-loop-j.result c.wide-in-loop-j-2.result
+          (omega arith) at.loop-j.invariant.1 norm.wide_norm.ensures refl first.wide.ensures.is low.wide-in-loop-j.ensures.is
+          c.wide-in-loop-j-2.ensures.is,
     )
 
 returns : tie.Need-returns invariant_loop decreases_loop
 returns c =
     let at = c.before in
     let a = at.before.args in
-    filled_all a.jobs a.norms.now a.marks.now a.first.now a.low.now a.ord.now at.loop.out at.loop.j
-    (omega arith) at.before.requires.0 at.before.requires.1 at.loop.invariant.1
+    filled_all a.jobs a.norms.now a.marks.now a.first.now a.low.now a.ord.now at.loop-j.out at.loop-j.j
+    (omega arith) at.before.requires.0 at.before.requires.1 at.loop-j.invariant.1
 
 pub gather_spec : {M : Type 1} → statement M
 gather_spec =
@@ -48,34 +48,34 @@ gather_spec =
     (tie.spec
     invariant_loop
     decreases_loop
-    (λ c. omega arith)  -- array-write-out
+    (λ c. omega arith)
     loop_holds
-    (λ c. omega arith)  -- mul-wide-norm
-    (λ c. omega arith)  -- element-copy-out-wide-norm
-    (λ c κs. search rules)  -- wide-norm-requires
-    (λ c. omega arith)  -- mul-out
-    (λ c. omega arith)  -- array-write-out-2
-    (λ c. omega arith)  -- mul-out-2
-    (λ c. omega arith)  -- element-copy-out-out
-    (λ c. omega arith)  -- add-out
-    (λ c. omega arith)  -- mul-out-3
-    (λ c. omega arith)  -- array-write-out-3
-    (λ c. omega arith)  -- element-copy-out-wide
-    (λ c κs. search rules)  -- wide-requires
-    (λ c. omega arith)  -- add-out-2
-    (λ c. omega arith)  -- mul-out-4
-    (λ c. omega arith)  -- array-write-out-4
-    (λ c. omega arith)  -- element-copy-out-wide-2
-    (λ c κs. search rules)  -- wide-requires-2
-    (λ c. omega arith)  -- add-out-3
-    (λ c. omega arith)  -- mul-out-5
-    (λ c. omega arith)  -- array-write-out-5
-    (λ c. omega arith)  -- element-copy-out-wide-3
-    (λ c κs. search rules)  -- wide-requires-3
-    (λ c. omega arith)  -- add-out-4
-    (λ c. omega arith)  -- mul-out-6
-    (λ c. omega arith)  -- array-write-out-6
-    (λ c. omega arith)  -- add-j
-    (λ c. omega arith)  -- loop-less
+    (λ c. omega arith)
+    (λ c. omega arith)
+    (λ c κs. search rules)
+    (λ c. omega arith)
+    (λ c. omega arith)
+    (λ c. omega arith)
+    (λ c. omega arith)
+    (λ c. omega arith)
+    (λ c. omega arith)
+    (λ c. omega arith)
+    (λ c. omega arith)
+    (λ c κs. search rules)
+    (λ c. omega arith)
+    (λ c. omega arith)
+    (λ c. omega arith)
+    (λ c. omega arith)
+    (λ c κs. search rules)
+    (λ c. omega arith)
+    (λ c. omega arith)
+    (λ c. omega arith)
+    (λ c. omega arith)
+    (λ c κs. search rules)
+    (λ c. omega arith)
+    (λ c. omega arith)
+    (λ c. omega arith)
+    (λ c. omega arith)
+    (λ c. omega arith)
     loop_again
     returns)

@@ -17,7 +17,7 @@ pub job_at_spec : {M : Type 1} → statement M
 job_at_spec =
     tie.close
     (tie.spec
-    (λ c. search rules)  -- add-result
-    (λ c. search rules)  -- mul-result
-    (λ c. search rules)  -- element-copy-out-result
+    (λ c. search rules)
+    (λ c. search rules)
+    (λ c. search rules)
     returns)

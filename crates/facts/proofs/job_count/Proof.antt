@@ -12,5 +12,5 @@ pub job_count_spec : {M : Type 1} → statement M
 job_count_spec =
     tie.close
     (tie.spec
-    (λ c. search rules)  -- element-copy-out-result
+    (λ c. search rules)
     returns)

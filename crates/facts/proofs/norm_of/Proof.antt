@@ -16,6 +16,6 @@ pub norm_of_spec : {M : Type 1} → statement M
 norm_of_spec =
     tie.close
     (tie.spec
-    (λ c. search rules)  -- mul-result
-    (λ c. search rules)  -- element-copy-out-result
+    (λ c. search rules)
+    (λ c. search rules)
     returns)

@@ -5,7 +5,7 @@ use Rattle.fingerprints.proofs.PrintedRules.{can_print, all_printed}
 use Rattle.fingerprints.proofs.all_prints.Statement.{statement}
 use Rattle.fingerprints.proofs.all_prints.Tie as tie
 
-rule_prints_requires : tie.Need-rule-prints-requires
+rule_prints_requires : tie.Need-rule_prints-requires
 rule_prints_requires c κs =
     let first = c.before in
     let s = first.before.before.before.before in
@@ -23,6 +23,6 @@ pub all_prints_spec : {M : Type 1} → statement M
 all_prints_spec =
     tie.close
     (tie.spec
-    (λ c κs. search rules)  -- row-prints-requires
+    (λ c κs. search rules)
     rule_prints_requires
     returns)

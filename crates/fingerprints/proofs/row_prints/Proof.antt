@@ -12,60 +12,60 @@ use Rattle.fingerprints.proofs.PrintedRows.{print_value, print_power, Printing, 
 use Rattle.fingerprints.proofs.row_prints.Statement.{statement}
 use Rattle.fingerprints.proofs.row_prints.Tie as tie
 
-abbrev invariant_loop : tie.invariant-loop
+abbrev invariant_loop : tie.invariant-loop-j
 invariant_loop rows lens jobs moved prints₀ j₀ prints j = Printing jobs (row lens rows) moved prints j
 
-abbrev decreases_loop : tie.decreases-loop
+abbrev decreases_loop : tie.decreases-loop-j
 decreases_loop rows lens jobs moved prints₀ j₀ prints j = jobs - j
 
 -- the rows
 abbrev rows_of : tie.Start invariant_loop decreases_loop → Rows
 rows_of s = row s.args.lens.now s.args.rows.now
 
-loop_holds : tie.Need-loop-init invariant_loop decreases_loop
+loop_holds : tie.Need-loop-j-init invariant_loop decreases_loop
 loop_holds c = let s = c.before in printing_first s.args.jobs (rows_of s) s.args.moved.now s.args.prints.now s.requires.1
 
 -- the job that a turn looks at
-module _ (c : tie.In-loop invariant_loop decreases_loop) where
+module _ (c : tie.In-loop-j invariant_loop decreases_loop) where
   abbrev start : tie.Start invariant_loop decreases_loop
   start = c.before.before.before
 
   abbrev j : ℕ
-  j = c.before.loop.j
+  j = c.before.loop-j.j
 
   small : j < 24
-  small = omega (arith, c.loop_test.true, start.pre.0.few)
+  small = omega (arith, c.loop-j-test.true, start.requires.0.few)
 
   short : get_or start.args.lens.now j 0 ≤ 512
-  short = start.pre.0.short j c.loop_test.true
+  short = start.requires.0.short j c.loop-j-test.true
 
-loop_again : tie.Need-loop-preserved invariant_loop decreases_loop
+loop_again : tie.Need-loop-j-preserved-then-moved-job-eq0 invariant_loop decreases_loop
 loop_again c =
-    let turn = c.before.before in
-    let s = start turn in
-    printing_past s.args.jobs (rows_of s) s.args.moved.now turn.before.loop.prints (j turn) turn.before.loop.invariant c.if1.true
-
-part_row_print_end : tie.Need-slice-bounds-row-print-end invariant_loop decreases_loop
-part_row_print_end c =
     let turn = c.before.before.before in
     let s = start turn in
-    omega (arith, row_inside s.args.jobs s.args.lens.now s.args.rows.now s.pre.0 (j turn) turn.loop_test.true)
+    printing_past s.args.jobs (rows_of s) s.args.moved.now turn.before.loop-j.prints (j turn) turn.before.loop-j.invariant c.if-moved-job-eq0.true
 
-loop_again_2 : tie.Need-loop-preserved-2 invariant_loop decreases_loop
+part_row_print_end : tie.Need-slice_bounds-row_print-end invariant_loop decreases_loop
+part_row_print_end c =
+    let turn = c.before.before.before.before.before in
+    let s = start turn in
+    omega (arith, row_inside s.args.jobs s.args.lens.now s.args.rows.now s.requires.0 (j turn) turn.loop-j-test.true)
+
+loop_again_2 : tie.Need-loop-j-preserved invariant_loop decreases_loop
 loop_again_2 c =
     let print = c.before.before in
-    let turn = print.before.before.before.before.before in
+    let turn = print.before.before.before.before.before.before.before.before in
     let s = start turn in
-    let x = print.row_print in
-    printing_more s.args.jobs (rows_of s) s.args.moved.now turn.before.loop.prints (j turn) turn.before.loop.invariant (small turn)
+    let x = print.row_print-print in
+    printing_more s.args.jobs (rows_of s) s.args.moved.now turn.before.loop-j.prints (j turn) turn.before.loop-j.invariant (small turn)
     x.result.value x.result.power (lent s.args.lens.now s.args.rows.now (j turn))
-    (row_part s.args.lens.now s.args.rows.now (j turn)) x.ensures s.pre.0.few
+    (row_part s.args.lens.now s.args.rows.now (j turn)) x.ensures s.requires.0.few
 
 returns : tie.Need-returns invariant_loop decreases_loop
 returns c =
     let s = c.before.before.before in
-    printing_last s.args.jobs (rows_of s) s.args.moved.now c.before.loop.prints c.before.loop.j c.loop_test.false
-    c.before.loop.invariant
+    printing_last s.args.jobs (rows_of s) s.args.moved.now c.before.loop-j.prints c.before.loop-j.j c.loop-j-test.false
+    c.before.loop-j.invariant
 
 pub row_prints_spec : {M : Type 1} → statement M
 row_prints_spec =
@@ -74,26 +74,26 @@ row_prints_spec =
     invariant_loop
     decreases_loop
     loop_holds
-    (λ c. omega (arith, small c))  -- add-j
-    (λ c. small c)  -- element-copy-out-if1
-    (λ c. omega (arith, c.before.before.loop_test.true))  -- loop-less
+    (λ c. omega (arith, small c))
+    (λ c. small c)
+    (λ c. omega (arith, c.before.before.loop-j-test.true))
     loop_again
-    (λ c. omega (arith, small c.before.before))  -- mul-start
-    (λ c. omega (arith, small c.before.before))  -- mul-end
-    (λ c. omega (arith, small c.before.before))  -- element-copy-out-end
-    (λ c. omega (arith, short c.before.before.before))  -- cast-end
-    (λ c. omega (arith, small c.before.before.before, short c.before.before.before))  -- add-end
-    (λ c. omega arith)  -- sub-row-print
-    (λ c. omega arith)  -- part-row-print-start
+    (λ c. omega (arith, small c.before.before))
+    (λ c. omega (arith, small c.before.before))
+    (λ c. omega (arith, small c.before.before))
+    (λ c. omega (arith, short c.before.before.before))
+    (λ c. omega (arith, small c.before.before.before, short c.before.before.before))
+    (λ c. omega arith)
+    (λ c. omega arith)
     part_row_print_end
-    (λ c κs. search rules)  -- row-print-requires
-    (λ c. omega (arith, modulus_is, print_value _ _ _ c.before.row_print.ensures))  -- cast-prints
-    (λ c. omega (arith, small c.before.before.before.before.before.before))  -- mul-prints
-    (λ c. omega (arith, small c.before.before.before.before.before.before))  -- element-write-prints
-    (λ c. omega (arith, modulus_is, print_power _ _ _ c.before.before.row_print.ensures))  -- cast-prints-2
-    (λ c. omega (arith, small c.before.before.before.before.before.before.before))  -- add-prints
-    (λ c. omega (arith, small c.before.before.before.before.before.before.before))  -- mul-prints-2
-    (λ c. omega (arith, small c.before.before.before.before.before.before.before))  -- element-write-prints-2
-    (λ c. omega (arith, c.before.before.before.before.before.before.before.loop_test.true))  -- loop-less-2
+    (λ c κs. search rules)
+    (λ c. omega (arith, modulus_is, print_value _ _ _ c.before.row_print-print.ensures))
+    (λ c. omega (arith, small c.before.before.before.before.before.before))
+    (λ c. omega (arith, small c.before.before.before.before.before.before))
+    (λ c. omega (arith, modulus_is, print_power _ _ _ c.before.before.row_print-print.ensures))
+    (λ c. omega (arith, small c.before.before.before.before.before.before.before))
+    (λ c. omega (arith, small c.before.before.before.before.before.before.before))
+    (λ c. omega (arith, small c.before.before.before.before.before.before.before))
+    (λ c. omega (arith, c.before.before.before.before.before.before.before.loop-j-test.true))
     loop_again_2
     returns)

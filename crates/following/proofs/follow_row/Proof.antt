@@ -8,7 +8,7 @@ pub follow_row_spec : {M : Type 1} → statement M
 follow_row_spec =
     tie.close
     (tie.spec
-    (λ c κs. search rules)  -- through-requires
-    (λ c. let a = c.before.before.before.before.args in follow_none a.cells.now a.row.now a.left c.before.if1.true c.through.ensures)  -- returns
-    (λ c κs. search rules)  -- follow-requires
+    (λ c κs. search rules)
+    (λ c. let a = c.before.before.before.before.args in follow_none a.cells.now a.row.now a.left c.before.if-row-eq0.true c.through.ensures)
+    (λ c κs. search rules)
     (λ c. search rules))  -- returns-2

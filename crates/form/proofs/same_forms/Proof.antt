@@ -9,31 +9,31 @@ use Rattle.form.proofs.EqualPlans.{tells_equal, tells_ends, tells_differ}
 use Rattle.form.proofs.same_forms.Statement.{statement}
 use Rattle.form.proofs.same_forms.Tie as tie
 
-returns : tie.Need-returns
+returns : tie.Need-returns-in-Equal
 unfolding meaning
 returns c =
     let a = c.before.before.before.before.before.before.before.args in
     let e = row a.lens.now a.rows.now in
     let f = c.before.before.first_difference in
     tells_equal (expand e a.p.now) (expand e a.q.now ++ a.rest.now) (meaning f.result) f.ensures
-    (ap meaning (sym c.enum_told.given.1))
+    (ap meaning (sym c.enum_told-1.given.1))
 
-returns_2 : tie.Need-returns-2
+returns_2 : tie.Need-returns-in-Ends
 unfolding meaning
 returns_2 c =
     let a = c.before.before.before.before.before.before.before.args in
     let e = row a.lens.now a.rows.now in
     let f = c.before.before.first_difference in
     tells_ends (expand e a.p.now) (expand e a.q.now ++ a.rest.now) (meaning f.result) f.ensures
-    (ap meaning (sym c.enum_told2.given.1))
+    (ap meaning (sym c.enum_told-in-Ends-1.given.1))
 
-returns_3 : tie.Need-returns-3
+returns_3 : tie.Need-returns-in-Differ
 unfolding meaning
 returns_3 c =
     let a = c.before.before.before.before.before.before.before.args in
     let e = row a.lens.now a.rows.now in
     let f = c.before.before.first_difference in
-    let d = c.enum_told3.given in
+    let d = c.enum_told-in-Differ-1.given in
     tells_differ (expand e a.p.now) (expand e a.q.now ++ a.rest.now) (meaning f.result) f.ensures d.0.0 d.0.1.0
     (ap meaning (sym d.1))
 
@@ -41,10 +41,10 @@ pub same_forms_spec : {M : Type 1} → statement M
 same_forms_spec =
     tie.close
     (tie.spec
-    (λ c κs. search rules)  -- first-difference-requires
-    (λ c. search rules)  -- enum_told
-    (λ c. search rules)  -- enum-told-2
-    (λ c. search rules)  -- enum-told-3
+    (λ c κs. search rules)
+    (λ c. search rules)
+    (λ c. search rules)
+    (λ c. search rules)
     returns
     returns_2
     returns_3)

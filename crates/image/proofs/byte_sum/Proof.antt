@@ -19,35 +19,35 @@ no_more : (bytes : List ℕ) → byte_sum (drop (length bytes) bytes) ≡ 0
 unfolding byte_sum
 no_more bytes = rw drop-length
 
-abbrev invariant_loop : tie.invariant-loop
+abbrev invariant_loop : tie.invariant-loop-i
 invariant_loop bytes sum₀ i₀ sum i = (i ≤ length bytes) × (sum ≤ 255 * i) × (sum + byte_sum (drop i bytes) ≡ byte_sum bytes)
 
-abbrev decreases_loop : tie.decreases-loop
+abbrev decreases_loop : tie.decreases-loop-i
 decreases_loop bytes sum₀ i₀ sum i = length bytes - i
 
-loop_holds : tie.Need-loop-init invariant_loop decreases_loop
+loop_holds : tie.Need-loop-i-init invariant_loop decreases_loop
 loop_holds c = omega arith
 
-shared_slice_read_wide : tie.Need-shared-slice-read-wide invariant_loop decreases_loop
+shared_slice_read_wide : tie.Need-bounds-bytes-i invariant_loop decreases_loop
 shared_slice_read_wide c = omega arith
 
-wide_requires : tie.Need-wide-requires invariant_loop decreases_loop
+wide_requires : tie.Need-wide-sum-requires invariant_loop decreases_loop
 wide_requires c κs = tt
 
-add_sum : tie.Need-overflow-add-sum invariant_loop decreases_loop
+add_sum : tie.Need-overflow_add-sum invariant_loop decreases_loop
 add_sum c = omega arith
 
-add_i : tie.Need-overflow-add-i invariant_loop decreases_loop
+add_i : tie.Need-overflow_add-i invariant_loop decreases_loop
 add_i c = omega arith
 
-loop_less : tie.Need-loop-smaller invariant_loop decreases_loop
+loop_less : tie.Need-loop-i-smaller invariant_loop decreases_loop
 loop_less c = omega arith
 
-loop_again : tie.Need-loop-preserved invariant_loop decreases_loop
+loop_again : tie.Need-loop-i-preserved invariant_loop decreases_loop
 loop_again c =
     let at_loop = c.before.before.before in
     let bytes = at_loop.before.before.args.bytes.now in
-    let i = at_loop.loop.i in
+    let i = at_loop.loop-i.i in
     let within : i < length bytes = omega arith in
     let step = one_more bytes i within in
     (omega arith, omega arith, omega arith)
@@ -56,7 +56,7 @@ returns : tie.Need-returns invariant_loop decreases_loop
 returns c =
     let at_loop = c.before in
     let bytes = at_loop.before.before.args.bytes.now in
-    let i = at_loop.loop.i in
+    let i = at_loop.loop-i.i in
     let end : i ≡ length bytes = omega arith in
     let none = ap (λ k. byte_sum (drop k bytes)) end ∙ no_more bytes in
     omega arith

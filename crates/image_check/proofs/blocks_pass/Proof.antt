@@ -19,52 +19,52 @@ no_more : (f : ℕ → Bool) (k : ℕ) → each_block f 0 k ≡ true
 unfolding each_block
 no_more f k = refl
 
-abbrev invariant_loop : tie.invariant-loop
+abbrev invariant_loop : tie.invariant-loop-k
 invariant_loop check image count k₀ k = (k ≤ count) × (each_block (block_check check image) count 0 ≡ each_block (block_check check image) (count - k) k)
 
-abbrev decreases_loop : tie.decreases-loop
+abbrev decreases_loop : tie.decreases-loop-k
 decreases_loop check image count k₀ k = count - k
 
-loop_holds : tie.Need-loop-init invariant_loop decreases_loop
+loop_holds : tie.Need-loop-k-init invariant_loop decreases_loop
 loop_holds c = (omega arith, simp sub-zero)
 
-block_passes_requires : tie.Need-block-passes-requires invariant_loop decreases_loop
+block_passes_requires : tie.Need-block_passes-requires invariant_loop decreases_loop
 block_passes_requires c κs =
     let start = c.before.before.before in
     let args = start.args in
-    ((omega arith, start.requires.0), λ h. each_one (head_good args.image.now) args.count 0 (start.requires.1 h) c.before.loop.k (omega arith) (omega arith))
+    ((omega arith, start.requires.0), λ h. each_one (head_good args.image.now) args.count 0 (start.requires.1 h) c.before.loop-k.k (omega arith) (omega arith))
 
-add_k : tie.Need-overflow-add-k invariant_loop decreases_loop
+add_k : tie.Need-overflow_add-k invariant_loop decreases_loop
 add_k c = omega arith
 
-loop_less : tie.Need-loop-smaller invariant_loop decreases_loop
+loop_less : tie.Need-loop-k-smaller invariant_loop decreases_loop
 loop_less c = omega arith
 
-loop_again : tie.Need-loop-preserved invariant_loop decreases_loop
+loop_again : tie.Need-loop-k-preserved invariant_loop decreases_loop
 loop_again c =
     let at_loop = c.before.before.before in
     let args = at_loop.before.before.args in
-    let more : at_loop.loop.k < args.count = omega arith in (
+    let more : at_loop.loop-k.k < args.count = omega arith in (
       omega arith,
-      at_loop.loop.invariant.1 ∙ one_more (block_check args.check args.image.now) args.count at_loop.loop.k more
-          ∙ rw (sym c.before.block_passes.ensures ∙ c.if1.true),
+      at_loop.loop-k.invariant.1 ∙ one_more (block_check args.check args.image.now) args.count at_loop.loop-k.k more
+          ∙ rw (sym c.before.block_passes.ensures ∙ c.if-block_passes.true),
     )
 
-returns : tie.Need-returns invariant_loop decreases_loop
+returns : tie.Need-returns-else-block_passes invariant_loop decreases_loop
 returns c =
     let at_loop = c.before.before.before in
     let args = at_loop.before.before.args in
-    let more : at_loop.loop.k < args.count = omega arith in
-    sym (at_loop.loop.invariant.1 ∙ one_more (block_check args.check args.image.now) args.count at_loop.loop.k more
-    ∙ rw (sym c.before.block_passes.ensures ∙ c.if1.false))
+    let more : at_loop.loop-k.k < args.count = omega arith in
+    sym (at_loop.loop-k.invariant.1 ∙ one_more (block_check args.check args.image.now) args.count at_loop.loop-k.k more
+    ∙ rw (sym c.before.block_passes.ensures ∙ c.if-block_passes.false))
 
-returns_2 : tie.Need-returns-2 invariant_loop decreases_loop
+returns_2 : tie.Need-returns invariant_loop decreases_loop
 returns_2 c =
     let at_loop = c.before in
     let args = at_loop.before.before.args in
     let check = block_check args.check args.image.now in
-    let end : args.count - at_loop.loop.k ≡ 0 = omega arith in
-    sym (at_loop.loop.invariant.1 ∙ ap (λ m. each_block check m at_loop.loop.k) end ∙ no_more check at_loop.loop.k)
+    let end : args.count - at_loop.loop-k.k ≡ 0 = omega arith in
+    sym (at_loop.loop-k.invariant.1 ∙ ap (λ m. each_block check m at_loop.loop-k.k) end ∙ no_more check at_loop.loop-k.k)
 
 pub blocks_pass_spec : {M : Type 1} → statement M
 blocks_pass_spec =

@@ -38,58 +38,58 @@ module _ (bs : List ℕ) where
   heads h = h
 
 -- the image's length is good
-behind : (c : tie.Else3) → let bs = c.before.before.before.before.args.image.now in
+behind : (c : tie.Else-count-gt4) → let bs = c.before.before.before.before.args.image.now in
     layout_refusal bs ≡ cond (not (passes 3 bs)) 3 (cond (not (passes 4 bs)) 4 (cond (not (passes 5 bs)) 5 0))
-behind c = rest c.before.before.before.before.args.image.now c.before.before.if1.false c.before.if2.false c.if3.false
+behind c = rest c.before.before.before.before.args.image.now c.before.before.if-image-ne0.false c.before.if-count-lt1.false c.if-count-gt4.false
 
-passed_3 : (c : tie.Then4) → passes 3 c.before.before.before.before.before.before.args.image.now ≡ true
+passed_3 : (c : tie.Then-blocks_pass) → passes 3 c.before.before.before.before.before.before.args.image.now ≡ true
 unfolding passes
-passed_3 c = sym c.before.blocks_pass.ensures ∙ c.if4.true
+passed_3 c = sym c.before.blocks_pass.ensures ∙ c.if-blocks_pass.true
 
-passed_4 : (c : tie.Then5) → passes 4 c.before.before.before.before.before.before.before.before.args.image.now ≡ true
+passed_4 : (c : tie.Then-blocks_pass-2) → passes 4 c.before.before.before.before.before.before.before.before.args.image.now ≡ true
 unfolding passes
-passed_4 c = sym c.before.blocks_pass2.ensures ∙ c.if5.true
+passed_4 c = sym c.before.blocks_pass-2.ensures ∙ c.if-blocks_pass-2.true
 
-returns : tie.Need-returns
-returns c = length_bad c.before.before.args.image.now c.if1.true
+returns : tie.Need-returns-then-image-ne0
+returns c = length_bad c.before.before.args.image.now c.if-image-ne0.true
 
-returns_2 : tie.Need-returns-2
-returns_2 c = no_blocks c.before.before.before.args.image.now c.before.if1.false c.if2.true
+returns_2 : tie.Need-returns-then-count-lt1
+returns_2 c = no_blocks c.before.before.before.args.image.now c.before.if-image-ne0.false c.if-count-lt1.true
 
-returns_3 : tie.Need-returns-3
-returns_3 c = many_blocks c.before.before.before.before.args.image.now c.before.before.if1.false c.before.if2.false c.if3.true
+returns_3 : tie.Need-returns-then-count-gt4
+returns_3 c = many_blocks c.before.before.before.before.args.image.now c.before.before.if-image-ne0.false c.before.if-count-lt1.false c.if-count-gt4.true
 
-blocks_pass_requires : tie.Need-blocks-pass-requires
+blocks_pass_requires : tie.Need-blocks_pass-requires
 blocks_pass_requires c κs = ((omega arith, omega arith), λ h. absurd (omega arith))
 
-returns_4 : tie.Need-returns-4
+returns_4 : tie.Need-returns-else-blocks_pass
 unfolding passes
-returns_4 c = sym (behind c.before.before ∙ rw (sym c.before.blocks_pass.ensures ∙ c.if4.false))
+returns_4 c = sym (behind c.before.before ∙ rw (sym c.before.blocks_pass.ensures ∙ c.if-blocks_pass.false))
 
-blocks_pass_requires_2 : tie.Need-blocks-pass-requires-2
+blocks_pass_requires_2 : tie.Need-blocks_pass-requires-2
 blocks_pass_requires_2 c κs = ((omega arith, omega arith), λ h. absurd (omega arith))
 
-returns_5 : tie.Need-returns-5
+returns_5 : tie.Need-returns-else-blocks_pass-2
 unfolding passes
 returns_5 c =
     sym (behind c.before.before.before.before
-    ∙ rw (passed_3 c.before.before, sym c.before.blocks_pass2.ensures ∙ c.if5.false))
+    ∙ rw (passed_3 c.before.before, sym c.before.blocks_pass-2.ensures ∙ c.if-blocks_pass-2.false))
 
-blocks_pass_requires_3 : tie.Need-blocks-pass-requires-3
+blocks_pass_requires_3 : tie.Need-blocks_pass-requires-3
 unfolding passes
 blocks_pass_requires_3 c κs = ((omega arith, omega arith), λ h. heads c.before.before.before.before.before.before.before.before.args.image.now (passed_4 c))
 
-returns_6 : tie.Need-returns-6
+returns_6 : tie.Need-returns-then-blocks_pass-3
 unfolding passes
 returns_6 c =
     sym (behind c.before.before.before.before.before.before
-    ∙ rw (passed_3 c.before.before.before.before, passed_4 c.before.before, sym c.before.blocks_pass3.ensures ∙ c.if6.true))
+    ∙ rw (passed_3 c.before.before.before.before, passed_4 c.before.before, sym c.before.blocks_pass-3.ensures ∙ c.if-blocks_pass-3.true))
 
-returns_7 : tie.Need-returns-7
+returns_7 : tie.Need-returns
 unfolding passes
 returns_7 c =
     sym (behind c.before.before.before.before.before.before
-    ∙ rw (passed_3 c.before.before.before.before, passed_4 c.before.before, sym c.before.blocks_pass3.ensures ∙ c.if6.false))
+    ∙ rw (passed_3 c.before.before.before.before, passed_4 c.before.before, sym c.before.blocks_pass-3.ensures ∙ c.if-blocks_pass-3.false))
 
 pub layout_refusal_spec : {M : Type 1} → statement M
 layout_refusal_spec =

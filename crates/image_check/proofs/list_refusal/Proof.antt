@@ -33,52 +33,52 @@ module _ (n : ℕ) (rs : List ℕ) where
   rest e some few = rw (eq-eqb (length rs % 8) 0 e, le-leb 1 (length rs / 8) some, le-leb (length rs / 8) 252 few)
 
 -- the list's length is good
-behind : (c : tie.Else3) → let args = c.before.before.before.before.args in
+behind : (c : tie.Else-count-gt252) → let args = c.before.before.before.before.args in
     list_refusal args.jobs args.rules.now
     ≡ cond (not (leb 1 args.jobs && leb args.jobs 24)) 4 (cond (not (places_good (length args.rules.now / 8) args.jobs args.rules.now)) 5 0)
 behind c =
     let args = c.before.before.before.before.args in
-    rest args.jobs args.rules.now c.before.before.if1.false c.before.if2.false c.if3.false
+    rest args.jobs args.rules.now c.before.before.if-rules-ne0.false c.before.if-count-lt1.false c.if-count-gt252.false
 
-returns : tie.Need-returns
+returns : tie.Need-returns-then-rules-ne0
 returns c =
     let args = c.before.before.args in
-    length_bad args.jobs args.rules.now c.if1.true
+    length_bad args.jobs args.rules.now c.if-rules-ne0.true
 
-returns_2 : tie.Need-returns-2
+returns_2 : tie.Need-returns-then-count-lt1
 returns_2 c =
     let args = c.before.before.before.args in
-    no_rules args.jobs args.rules.now c.before.if1.false c.if2.true
+    no_rules args.jobs args.rules.now c.before.if-rules-ne0.false c.if-count-lt1.true
 
-returns_3 : tie.Need-returns-3
+returns_3 : tie.Need-returns-then-count-gt252
 returns_3 c =
     let args = c.before.before.before.before.args in
-    many_rules args.jobs args.rules.now c.before.before.if1.false c.before.if2.false c.if3.true
+    many_rules args.jobs args.rules.now c.before.before.if-rules-ne0.false c.before.if-count-lt1.false c.if-count-gt252.true
 
-returns_4 : tie.Need-returns-4
+returns_4 : tie.Need-returns-then-jobs-lt1
 returns_4 c =
     let n = c.before.before.before.before.before.args.jobs in
-    sym (behind c.before ∙ rw (lt-leb 1 n c.if4.true))
+    sym (behind c.before ∙ rw (lt-leb 1 n c.if-jobs-lt1.true))
 
-returns_5 : tie.Need-returns-5
+returns_5 : tie.Need-returns-then-jobs-gt24
 returns_5 c =
     let n = c.before.before.before.before.before.before.args.jobs in
-    sym (behind c.before.before ∙ rw (le-leb 1 n c.before.if4.false, lt-leb n 24 (omega arith)))
+    sym (behind c.before.before ∙ rw (le-leb 1 n c.before.if-jobs-lt1.false, lt-leb n 24 (omega arith)))
 
-places_good_requires : tie.Need-places-good-requires
+places_good_requires : tie.Need-places_good-requires
 places_good_requires c κs = search rules
 
-returns_6 : tie.Need-returns-6
+returns_6 : tie.Need-returns-then-places_good
 returns_6 c =
     let n = c.before.before.before.before.before.before.before.before.args.jobs in
     sym (behind c.before.before.before.before
-    ∙ rw (le-leb 1 n c.before.before.before.if4.false, le-leb n 24 c.before.before.if5.false, sym c.before.places_good.ensures ∙ c.if6.true))
+    ∙ rw (le-leb 1 n c.before.before.before.if-jobs-lt1.false, le-leb n 24 c.before.before.if-jobs-gt24.false, sym c.before.places_good.ensures ∙ c.if-places_good.true))
 
-returns_7 : tie.Need-returns-7
+returns_7 : tie.Need-returns
 returns_7 c =
     let n = c.before.before.before.before.before.before.before.before.args.jobs in
     sym (behind c.before.before.before.before
-    ∙ rw (le-leb 1 n c.before.before.before.if4.false, le-leb n 24 c.before.before.if5.false, sym c.before.places_good.ensures ∙ c.if6.false))
+    ∙ rw (le-leb 1 n c.before.before.before.if-jobs-lt1.false, le-leb n 24 c.before.before.if-jobs-gt24.false, sym c.before.places_good.ensures ∙ c.if-places_good.false))
 
 pub list_refusal_spec : {M : Type 1} → statement M
 list_refusal_spec =

@@ -94,66 +94,66 @@ module _ (bs : List ℕ) (k jobs number count : ℕ) (rules : List ℕ) (t : Sta
         holds = all;
       }
 
-abbrev invariant_loop : tie.invariant-loop
+abbrev invariant_loop : tie.invariant-loop-k
 invariant_loop image blocks reader₀ k₀ reader k = State image blocks k reader.jobs reader.block reader.count reader.rules
 
-abbrev decreases_loop : tie.decreases-loop
+abbrev decreases_loop : tie.decreases-loop-k
 decreases_loop image blocks reader₀ k₀ reader k = blocks - k
 
-new_requires : tie.Need-new-requires invariant_loop decreases_loop
+new_requires : tie.Need-new-reader-requires invariant_loop decreases_loop
 new_requires c κs = tt
 
-loop_holds : tie.Need-loop-init invariant_loop decreases_loop
+loop_holds : tie.Need-loop-k-init invariant_loop decreases_loop
 loop_holds c =
     let bs = c.before.before.args.image.now in
-    let r = c.new.result in
-    let e = c.new.ensures in
+    let r = c.new-reader.result in
+    let e = c.new-reader.ensures in
     start bs r.jobs r.block r.count r.rules e.0 e.1.0 e.1.1
 
-mul_a : tie.Need-overflow-mul-a invariant_loop decreases_loop
-mul_a c = let h = c.before.loop.invariant.within in omega arith
+mul_a : tie.Need-overflow_mul-a invariant_loop decreases_loop
+mul_a c = let h = c.before.loop-k.invariant.within in omega arith
 
-add_e : tie.Need-overflow-add-e invariant_loop decreases_loop
+add_e : tie.Need-overflow_add-e invariant_loop decreases_loop
 add_e c = omega arith
 
-sub_take_block : tie.Need-overflow-sub-take-block invariant_loop decreases_loop
+sub_take_block : tie.Need-slice_bounds-take_block-count invariant_loop decreases_loop
 sub_take_block c = omega arith
 
-part_take_block_start : tie.Need-slice-bounds-take-block-start invariant_loop decreases_loop
+part_take_block_start : tie.Need-slice_bounds-take_block-start invariant_loop decreases_loop
 part_take_block_start c = omega arith
 
-part_take_block_end : tie.Need-slice-bounds-take-block-end invariant_loop decreases_loop
+part_take_block_end : tie.Need-slice_bounds-take_block-end invariant_loop decreases_loop
 part_take_block_end c = omega arith
 
-take_block_requires : tie.Need-take-block-requires invariant_loop decreases_loop
+take_block_requires : tie.Need-take_block-reader-requires invariant_loop decreases_loop
 take_block_requires c κs =
     let at_loop = c.before.before in
     let first = at_loop.before.before.before in
-    let r = at_loop.loop.reader in
-    takes first.args.image.now at_loop.loop.k r.jobs r.block r.count r.rules at_loop.loop.invariant c.before.loop_test.true (laid_out _ first.requires)
+    let r = at_loop.loop-k.reader in
+    takes first.args.image.now at_loop.loop-k.k r.jobs r.block r.count r.rules at_loop.loop-k.invariant c.before.loop-k-test.true (laid_out _ first.requires)
 
-add_k : tie.Need-overflow-add-k invariant_loop decreases_loop
+add_k : tie.Need-overflow_add-k invariant_loop decreases_loop
 add_k c = omega arith
 
-loop_less : tie.Need-loop-smaller invariant_loop decreases_loop
+loop_less : tie.Need-loop-k-smaller invariant_loop decreases_loop
 loop_less c = omega arith
 
-loop_again : tie.Need-loop-preserved invariant_loop decreases_loop
+loop_again : tie.Need-loop-k-preserved invariant_loop decreases_loop
 loop_again c =
     let at_loop = c.before.before.before in
     let first = at_loop.before.before.before in
-    let r = at_loop.loop.reader in
-    let q = c.take_block.result in
-    let e = c.take_block.ensures in
-    next first.args.image.now at_loop.loop.k r.jobs r.block r.count r.rules at_loop.loop.invariant c.before.before.loop_test.true (laid_out _ first.requires)
+    let r = at_loop.loop-k.reader in
+    let q = c.take_block-reader.result in
+    let e = c.take_block-reader.ensures in
+    next first.args.image.now at_loop.loop-k.k r.jobs r.block r.count r.rules at_loop.loop-k.invariant c.before.before.loop-k-test.true (laid_out _ first.requires)
     q.jobs q.block q.count q.rules e.0.0 e.0.1 e.1
 
 returns : tie.Need-returns invariant_loop decreases_loop
 returns c =
     let at_loop = c.before in
     let first = at_loop.before.before.before in
-    let r = at_loop.loop.reader in
-    done first.args.image.now at_loop.loop.k r.jobs r.block r.count r.rules at_loop.loop.invariant c.loop_test.false (laid_out _ first.requires)
+    let r = at_loop.loop-k.reader in
+    done first.args.image.now at_loop.loop-k.k r.jobs r.block r.count r.rules at_loop.loop-k.invariant c.loop-k-test.false (laid_out _ first.requires)
 
 pub read_spec : {M : Type 1} → statement M
 read_spec =

@@ -124,41 +124,41 @@ module _ (n : ℕ) (rs out₀ : List ℕ) (rest : ℕ) (out : List ℕ) (t : Sta
             ∙ sym (put_front (written n rs) out₀);
       }
 
-abbrev invariant_loop : tie.invariant-loop
+abbrev invariant_loop : tie.invariant-loop-rest
 invariant_loop jobs rules out₀ blocks rest₀ out rest = State jobs rules out₀ blocks rest out
 
-abbrev decreases_loop : tie.decreases-loop
+abbrev decreases_loop : tie.decreases-loop-rest
 decreases_loop jobs rules out₀ blocks rest₀ out rest = rest
 
-loop_holds : tie.Need-loop-init invariant_loop decreases_loop
+loop_holds : tie.Need-loop-rest-init invariant_loop decreases_loop
 loop_holds c =
     let start = c.before.before in
     begin start.args.jobs start.args.rules.now start.args.out.now (good_list _ _ start.requires.0) start.requires.1
 
-loop_again : tie.Need-loop-preserved invariant_loop decreases_loop
+loop_again : tie.Need-loop-rest-preserved invariant_loop decreases_loop
 loop_again c =
     let turned = c.before.before.before.before.before in
     let at_loop = turned.before.before in
     let args = at_loop.before.before.before.args in
-    next args.jobs args.rules.now args.out.now at_loop.loop.rest at_loop.loop.out at_loop.loop.invariant
-    turned.before.loop_test.true turned.least.result turned.least.ensures
-    c.before.before.fill_block.new.1.1.1.1.0 c.before.before.fill_block.ensures
+    next args.jobs args.rules.now args.out.now at_loop.loop-rest.rest at_loop.loop-rest.out at_loop.loop-rest.invariant
+    turned.before.loop-rest-test.true turned.least-to.result turned.least-to.ensures
+    c.before.before.fill_block.new.block c.before.before.fill_block.ensures
 
-fill_block_requires : tie.Need-fill-block-requires invariant_loop decreases_loop
+fill_block_requires : tie.Need-fill_block-requires invariant_loop decreases_loop
 fill_block_requires c κs = record {
   whole = simp (length-take, length-drop) (omega arith);
-  few_rules = simp (length-take, length-drop) (omega (arith, c.before.before.least.ensures));
+  few_rules = simp (length-take, length-drop) (omega (arith, c.before.before.least-to.ensures));
   few_jobs = omega arith;
 }
 
-same_length : tie.Need-same-length invariant_loop decreases_loop
-same_length c = c.before.loop.invariant.size
+same_length : tie.Need-shape_of-out invariant_loop decreases_loop
+same_length c = c.before.loop-rest.invariant.size
 
 returns : tie.Need-returns invariant_loop decreases_loop
 returns c =
     let at_loop = c.before in
     let args = at_loop.before.before.before.args in
-    done args.jobs args.rules.now args.out.now at_loop.loop.rest at_loop.loop.out at_loop.loop.invariant c.loop_test.false
+    done args.jobs args.rules.now args.out.now at_loop.loop-rest.rest at_loop.loop-rest.out at_loop.loop-rest.invariant c.loop-rest-test.false
 
 pub write_blocks_spec : {M : Type 1} → statement M
 write_blocks_spec =
@@ -166,24 +166,24 @@ write_blocks_spec =
     (tie.spec
     invariant_loop
     decreases_loop
-    (λ c. omega arith)  -- add-blocks
+    (λ c. omega arith)
     loop_holds
-    (λ c. omega arith)  -- sub-k
-    (λ c. omega arith)  -- sub-rest
-    (λ c. omega arith)  -- mul-a
-    (λ c. omega arith)  -- add-e
-    (λ c. omega arith)  -- mul-from
-    (λ c. omega arith)  -- add-least
-    (λ c κs. tt)  -- least-requires
-    (λ c. omega arith)  -- sub-fill-block
-    (λ c. omega arith)  -- part-fill-block-start
-    (λ c. omega arith)  -- part-fill-block-end
-    (λ c. omega arith)  -- sub-fill-block-2
-    (λ c. omega arith)  -- part-fill-block-start-2
-    (λ c. omega arith)  -- part-fill-block-end-2
+    (λ c. omega arith)
+    (λ c. omega arith)
+    (λ c. omega arith)
+    (λ c. omega arith)
+    (λ c. omega arith)
+    (λ c. omega arith)
+    (λ c κs. tt)
+    (λ c. omega arith)
+    (λ c. omega arith)
+    (λ c. omega arith)
+    (λ c. omega arith)
+    (λ c. omega arith)
+    (λ c. omega arith)
     fill_block_requires
-    (λ c. omega arith)  -- loop-less
+    (λ c. omega arith)
     loop_again
-    (λ c. omega arith)  -- mul-result
+    (λ c. omega arith)
     same_length
     returns)

@@ -10,11 +10,11 @@ use Rattle.joining.specs.JoinedBytes.{norm_of}
 use Rattle.joining.proofs.join_norms.Statement.{statement}
 use Rattle.joining.proofs.join_norms.Tie as tie
 
-abbrev invariant_loop : tie.invariant-loop
+abbrev invariant_loop : tie.invariant-loop-j
 invariant_loop first jobs second norms₀ j₀ norms j =
     (length norms ≡ 24) × (j ≤ 24) × ((i : ℕ) → i < j → get_or norms i 0 ≡ norm_of first jobs second i)
 
-abbrev decreases_loop : tie.decreases-loop
+abbrev decreases_loop : tie.decreases-loop-j
 decreases_loop first jobs second norms₀ j₀ norms j = 24 - j
 
 -- one norm more
@@ -28,11 +28,11 @@ next f norms j v e room so_far i h = go (dec_lt i j)
         let d : i ≡ j = omega (arith, l, h) in
         ap (λ (k : ℕ). get_or (set norms j v) k 0) d ∙ get_or-set_same norms j v 0 room ∙ e ∙ ap f (sym d)
 
-loop_again : tie.Need-loop-preserved invariant_loop decreases_loop
+loop_again : tie.Need-loop-j-preserved invariant_loop decreases_loop
 loop_again c =
     let d = c.before in
     let a = d.before.before.args in
-    let l = d.before.loop in (
+    let l = d.before.loop-j in (
       length-set l.norms l.j c.norm_at.result ∙ l.invariant.0,
       omega arith,
       next (norm_of a.first.now a.jobs a.second.now) l.norms l.j c.norm_at.result c.norm_at.ensures (omega (arith, l.invariant.0)) l.invariant.2,
@@ -44,11 +44,11 @@ join_norms_spec =
     (tie.spec
     invariant_loop
     decreases_loop
-    (λ c. (refl, omega arith, λ i h. absurd (omega arith)))  -- loop-holds
-    (λ c κs. omega arith)  -- norm-at-requires
-    (λ c. omega arith)  -- mul-norms
-    (λ c. omega arith)  -- array-write-norms
-    (λ c. omega arith)  -- add-j
-    (λ c. omega arith)  -- loop-less
+    (λ c. (refl, omega arith, λ i h. absurd (omega arith)))
+    (λ c κs. omega arith)
+    (λ c. omega arith)
+    (λ c. omega arith)
+    (λ c. omega arith)
+    (λ c. omega arith)
     loop_again
-    (λ c. let i = c.before.loop.invariant in record { size = i.0; at = λ j h. i.2 j (omega (arith, c.loop_test.false)) }))  -- returns
+    (λ c. let i = c.before.loop-j.invariant in record { size = i.0; at = λ j h. i.2 j (omega (arith, c.loop-j-test.false)) }))  -- returns

@@ -10,6 +10,6 @@ pub numbered_on_spec : {M : Type 1} → statement M
 numbered_on_spec =
     tie.close
     (tie.spec
-    (λ c. search rules)  -- add-result
-    (λ c. let a = c.before.args in sym (ap (λ (b : Bool). cond b (a.jobs + a.byte) a.byte) c.if1.true))  -- returns
+    (λ c. search rules)
+    (λ c. let a = c.before.args in sym (ap (λ (b : Bool). cond b (a.jobs + a.byte) a.byte) c.if-named.true))
     (λ c. search rules))  -- returns-2

@@ -9,8 +9,8 @@ pub refusal_spec : {M : Type 1} → statement M
 refusal_spec =
     tie.close
     (tie.spec
-    (λ c. search rules)  -- add-if1
-    (λ c. many_jobs _ _ c.if1.true)  -- returns
-    (λ c. search rules)  -- add-if2
-    (λ c. many_rules _ _ c.if2.true)  -- returns-2
-    (λ c. sizes_fit _ _ (omega (arith, c.before.if1.false)) (omega (arith, c.if2.false))))  -- returns-3
+    (λ c. search rules)
+    (λ c. many_jobs _ _ c.if-jobs-others-gt24.true)
+    (λ c. search rules)
+    (λ c. many_rules _ _ c.if-end-more-gt2016.true)
+    (λ c. sizes_fit _ _ (omega (arith, c.before.if-jobs-others-gt24.false)) (omega (arith, c.if-end-more-gt2016.false))))  -- returns-3

@@ -17,25 +17,25 @@ pub renumber_place_spec : {M : Type 1} → statement M
 renumber_place_spec =
     tie.close
     (tie.spec
-    (λ c. search rules)  -- slice-read-count
-    (λ c. search rules)  -- slice-read-job
-    (λ c. let s = c.before.before.before in record { fits = job_fits s.requires.bound s.args.place.now s.requires.good s.args.jobs s.requires.few })  -- add-job
-    (λ c. search rules)  -- slice-read-numbered-on
-    (λ c κs. fits c.before.before.before.before 0 (omega arith))  -- numbered-on-requires
-    (λ c. search rules)  -- slice-read-numbered-on-2
-    (λ c κs. fits c.before.before.before.before.before.before 1 (omega arith))  -- numbered-on-requires-2
-    (λ c. search rules)  -- slice-read-numbered-on-3
-    (λ c κs. fits c.before.before.before.before.before.before.before.before 2 (omega arith))  -- numbered-on-requires-3
-    (λ c. search rules)  -- slice-read-numbered-on-4
-    (λ c κs. fits c.before.before.before.before.before.before.before.before.before.before 3 (omega arith))  -- numbered-on-requires-4
-    (λ c. search rules)  -- slice-write-place
-    (λ c. search rules)  -- slice-write-place-2
-    (λ c. search rules)  -- slice-write-place-3
-    (λ c. search rules)  -- slice-write-place-4
-    (λ c. let s = c.before.before.before.before.before.before.before.before.before.before.before in simp length-set (omega (arith, s.requires.size)))  -- slice-write-place-5
-    (λ c. search rules)  -- same-length
+    (λ c. search rules)
+    (λ c. search rules)
+    (λ c. let s = c.before.before.before in record { fits = job_fits s.requires.bound s.args.place.now s.requires.good s.args.jobs s.requires.few })
+    (λ c. search rules)
+    (λ c κs. fits c.before.before.before.before 0 (omega arith))
+    (λ c. search rules)
+    (λ c κs. fits c.before.before.before.before.before.before 1 (omega arith))
+    (λ c. search rules)
+    (λ c κs. fits c.before.before.before.before.before.before.before.before 2 (omega arith))
+    (λ c. search rules)
+    (λ c κs. fits c.before.before.before.before.before.before.before.before.before.before 3 (omega arith))
+    (λ c. search rules)
+    (λ c. search rules)
+    (λ c. search rules)
+    (λ c. search rules)
+    (λ c. let s = c.before.before.before.before.before.before.before.before.before.before.before in simp length-set (omega (arith, s.requires.size)))
+    (λ c. search rules)
     (λ c.
     let s = c.before.before.before.before.before.before.before.before.before.before.before in
     five_bytes s.args.jobs s.args.place.now (place_of_eight s.args.place.now s.requires.size)
-    c.before.before.before.before.before.before.numbered_on.ensures c.before.before.before.before.numbered_on2.ensures
-    c.before.before.numbered_on3.ensures c.numbered_on4.ensures))  -- returns
+    c.before.before.before.before.before.before.numbered_on-first.ensures c.before.before.before.before.numbered_on-second.ensures
+    c.before.before.numbered_on-third.ensures c.numbered_on-fourth.ensures))  -- returns

@@ -17,10 +17,10 @@ use Rattle.joining.proofs.renumber_places.Tie as tie
 abbrev so_far : (jobs i : ℕ) → (places : List ℕ) → List ℕ
 so_far n = passed (renumbered_place n) (λ y. true) (λ y e h. place_size n y)
 
-abbrev invariant_loop : tie.invariant-loop
+abbrev invariant_loop : tie.invariant-loop-i
 invariant_loop places₀ jobs count i₀ places i = (i ≤ count) × (places ≡ so_far jobs i places₀)
 
-abbrev decreases_loop : tie.decreases-loop
+abbrev decreases_loop : tie.decreases-loop-i
 decreases_loop places₀ jobs count i₀ places i = count - i
 
 -- what the contract asks says that so many places are whole
@@ -29,7 +29,7 @@ unfolding rule_count
 whole c = sym c.requires.whole
 
 -- the place that a turn looks at
-module _ (c : tie.In-loop invariant_loop decreases_loop) where
+module _ (c : tie.In-loop-i invariant_loop decreases_loop) where
   abbrev start : tie.Start invariant_loop decreases_loop
   start = c.before.before.before
 
@@ -40,26 +40,26 @@ module _ (c : tie.In-loop invariant_loop decreases_loop) where
   n = start.args.jobs
 
   abbrev i : ℕ
-  i = c.before.loop.i
+  i = c.before.loop-i.i
 
   inside : 8 * i + 8 ≤ length xs
   inside = omega (arith, whole start)
 
-  same_size : length c.before.loop.places ≡ length xs
+  same_size : length c.before.loop-i.places ≡ length xs
   same_size =
-      passed_length (renumbered_place n) (λ y. true) (λ y e h. place_size n y) i xs c.before.loop.places (omega (arith, inside)) (each_any i xs)
-      c.before.loop.invariant.1
+      passed_length (renumbered_place n) (λ y. true) (λ y e h. place_size n y) i xs c.before.loop-i.places (omega (arith, inside)) (each_any i xs)
+      c.before.loop-i.invariant.1
 
-  place : take (8 * i + 8 - 8 * i) (drop (8 * i) c.before.loop.places) ≡ take 8 (drop (8 * i) xs)
+  place : take (8 * i + 8 - 8 * i) (drop (8 * i) c.before.loop-i.places) ≡ take 8 (drop (8 * i) xs)
   place =
-      next_place (renumbered_place n) (λ y. true) (λ y e h. place_size n y) i xs c.before.loop.places (omega (arith, inside)) (each_any i xs)
-      c.before.loop.invariant.1
+      next_place (renumbered_place n) (λ y. true) (λ y e h. place_size n y) i xs c.before.loop-i.places (omega (arith, inside)) (each_any i xs)
+      c.before.loop-i.invariant.1
 
-loop_holds : tie.Need-loop-init invariant_loop decreases_loop
+loop_holds : tie.Need-loop-i-init invariant_loop decreases_loop
 unfolding changed_places
 loop_holds c = (omega arith, refl)
 
-renumber_place_requires : tie.Need-renumber-place-requires invariant_loop decreases_loop
+renumber_place_requires : tie.Need-renumber_place-requires invariant_loop decreases_loop
 unfolding rule_count
 renumber_place_requires c κs =
     let d = c.before in
@@ -71,22 +71,22 @@ renumber_place_requires c κs =
       good = rw (place d) (good_place (length (xs d) / 8) p.bound (xs d) (i d) p.good (omega arith));
     }
 
-loop_again : tie.Need-loop-preserved invariant_loop decreases_loop
+loop_again : tie.Need-loop-i-preserved invariant_loop decreases_loop
 loop_again c =
     let m = c.before.before in
     let d = m.before.before in (
       omega arith,
-      next_passed (renumbered_place (n d)) (λ y. true) (λ y e h. place_size (n d) y) (i d) (xs d) d.before.loop.places (omega (arith, inside d)) (each_any (i d) (xs d))
-          d.before.loop.invariant.1 m.renumber_place.new.0 (m.renumber_place.ensures ∙ ap (renumbered_place (n d)) (place d)),
+      next_passed (renumbered_place (n d)) (λ y. true) (λ y e h. place_size (n d) y) (i d) (xs d) d.before.loop-i.places (omega (arith, inside d)) (each_any (i d) (xs d))
+          d.before.loop-i.invariant.1 m.renumber_place.new.place (m.renumber_place.ensures ∙ ap (renumbered_place (n d)) (place d)),
     )
 
-same_length : tie.Need-same-length invariant_loop decreases_loop
+same_length : tie.Need-shape_of-places invariant_loop decreases_loop
 same_length c =
     let v = c.before in
     let s = v.before.before in
     let xs = s.args.places.now in
-    passed_length (renumbered_place s.args.jobs) (λ y. true) (λ y e h. place_size s.args.jobs y) v.loop.i xs v.loop.places (omega (arith, whole s))
-    (each_any v.loop.i xs) v.loop.invariant.1
+    passed_length (renumbered_place s.args.jobs) (λ y. true) (λ y e h. place_size s.args.jobs y) v.loop-i.i xs v.loop-i.places (omega (arith, whole s))
+    (each_any v.loop-i.i xs) v.loop-i.invariant.1
 
 returns : tie.Need-returns invariant_loop decreases_loop
 unfolding rule_count
@@ -95,8 +95,8 @@ returns c =
     let s = v.before.before in
     let xs = s.args.places.now in
     let all = length xs / 8 in
-    let e : v.loop.i ≡ all = omega (arith, c.loop_test.false) in
-    v.loop.invariant.1 ∙ ap (λ (k : ℕ). so_far s.args.jobs k xs) e
+    let e : v.loop-i.i ≡ all = omega (arith, c.loop-i-test.false) in
+    v.loop-i.invariant.1 ∙ ap (λ (k : ℕ). so_far s.args.jobs k xs) e
     ∙ ap (λ (l : List ℕ). changed_places (renumbered_place s.args.jobs) all xs ++ l) (drop_of_length-le xs {i = 8 * all} (omega (arith, whole s)))
     ∙ append-nil (changed_places (renumbered_place s.args.jobs) all xs)
 
@@ -107,14 +107,14 @@ renumber_places_spec =
     invariant_loop
     decreases_loop
     loop_holds
-    (λ c. omega (arith, inside c))  -- mul-start
-    (λ c. omega (arith, inside c))  -- add-next
-    (λ c. omega arith)  -- sub-renumber-place
-    (λ c. omega arith)  -- part-renumber-place-start
-    (λ c. omega (arith, inside c, same_size c))  -- part-renumber-place-end
+    (λ c. omega (arith, inside c))
+    (λ c. omega (arith, inside c))
+    (λ c. omega arith)
+    (λ c. omega arith)
+    (λ c. omega (arith, inside c, same_size c))
     renumber_place_requires
-    (λ c. omega (arith, inside c.before.before.before.before))  -- add-i
-    (λ c. omega arith)  -- loop-less
+    (λ c. omega (arith, inside c.before.before.before.before))
+    (λ c. omega arith)
     loop_again
     same_length
     returns)

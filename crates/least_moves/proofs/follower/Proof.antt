@@ -5,25 +5,24 @@ use borrow.Author.Rules.{rules}
 use Rattle.least_moves.proofs.follower.Statement.{statement}
 use Rattle.least_moves.proofs.follower.Tie as tie
 
-returns_2 : tie.Need-returns-2
+returns_2 : tie.Need-returns-then-rule_move
 returns_2 c =
     let m = c.before in
     let t = m.before.before in
-    let total = t.before.rule_total.ensures in
+    let total = t.before.rule_total-total.ensures in
     record {
-      within = omega (arith, t.if1.false, total);
+      within = omega (arith, t.if-total-first.false, total);
       tie = λ h e. refl;
-      none = λ no. absurd (no (omega (arith, t.if1.false, total)) (omega (arith, c.if2.true, m.before.rule_move.ensures.is, m.rule_move2.ensures.is)));
+      none = λ no. absurd (no (omega (arith, t.if-total-first.false, total)) (omega (arith, c.if-rule_move.true, m.before.rule_move.ensures.is, m.rule_move-2.ensures.is)));
     }
 
 pub follower_spec : {M : Type 1} → statement M
 follower_spec =
     tie.close
     (tie.spec
-    (λ c κs. search rules)  -- rule-total-requires
-    (λ c. search rules)  -- returns
-    (λ c κs. search rules)  -- rule-move-requires
-    (λ c κs. search rules)  -- rule-move-requires-2
+    (λ c κs. search rules)
+    (λ c. search rules)
+    (λ c κs. search rules)
+    (λ c κs. search rules)
     returns_2
-    (λ c. search rules)  -- returns-3
-    )
+    (λ c. search rules))

@@ -9,32 +9,32 @@ use Rattle.log_moves.proofs.LogMoves.{Counted, counted_none, counted_more, count
 use Rattle.log_moves.proofs.counted_moves.Statement.{statement}
 use Rattle.log_moves.proofs.counted_moves.Tie as tie
 
-abbrev invariant_loop : tie.invariant-loop
+abbrev invariant_loop : tie.invariant-loop-k
 invariant_loop alike log count moves₀ k₀ moves k = Counted alike log moves k
 
-abbrev decreases_loop : tie.decreases-loop
+abbrev decreases_loop : tie.decreases-loop-k
 decreases_loop alike log count moves₀ k₀ moves k = count - k
 
-loop_holds : tie.Need-loop-init invariant_loop decreases_loop
+loop_holds : tie.Need-loop-k-init invariant_loop decreases_loop
 loop_holds c = counted_none c.before.before.args.alike.now c.before.before.args.log.now
 
-array_write_moves : tie.Need-array-write-moves invariant_loop decreases_loop
+array_write_moves : tie.Need-bounds-moves-k invariant_loop decreases_loop
 array_write_moves c =
     let i = c.before.before in
-    omega (arith, i.loop_test.true, i.before.before.before.before.requires)
+    omega (arith, i.loop-k-test.true, i.before.before.before.before.requires)
 
-loop_again : tie.Need-loop-preserved invariant_loop decreases_loop
+loop_again : tie.Need-loop-k-preserved invariant_loop decreases_loop
 loop_again c =
     let i = c.before.before in
     let s = i.before.before.before.before in
-    let l = i.before.loop in
-    counted_more s.args.alike.now s.args.log.now l.moves l.k c.counts_as.result s.requires i.loop_test.true
+    let l = i.before.loop-k in
+    counted_more s.args.alike.now s.args.log.now l.moves l.k c.counts_as.result s.requires i.loop-k-test.true
     (c.counts_as.ensures ∙ ap (replace (alike_pairs s.args.alike.now)) c.before.move_at.ensures.is) l.invariant
 
 returns : tie.Need-returns invariant_loop decreases_loop
 returns c =
     let s = c.before.before.before.before in
-    counted_all s.args.alike.now s.args.log.now c.before.loop.moves c.before.loop.k c.loop_test.false c.before.loop.invariant
+    counted_all s.args.alike.now s.args.log.now c.before.loop-k.moves c.before.loop-k.k c.loop-k-test.false c.before.loop-k.invariant
 
 pub counted_moves_spec : {M : Type 1} → statement M
 counted_moves_spec =
@@ -43,12 +43,12 @@ counted_moves_spec =
     invariant_loop
     decreases_loop
     loop_holds
-    (λ c. search rules)  -- mul-move-at
-    (λ c κs. search rules)  -- move-at-requires
-    (λ c κs. search rules)  -- counts-as-requires
-    (λ c. search rules)  -- mul-moves
+    (λ c. search rules)
+    (λ c κs. search rules)
+    (λ c κs. search rules)
+    (λ c. search rules)
     array_write_moves
-    (λ c. search rules)  -- add-k
-    (λ c. search rules)  -- loop-less
+    (λ c. search rules)
+    (λ c. search rules)
     loop_again
     returns)

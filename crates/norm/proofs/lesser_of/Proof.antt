@@ -13,25 +13,29 @@ known : (a b : ℕ) → (a ≡ 0 → ⊥) → (b ≡ 0 → ⊥) → lesser a b �
 unfolding lesser
 known a b h k = rw (ne_eqb a 0 h, ne_eqb b 0 k)
 
-returns : tie.Need-returns
-returns c = sym (ap (λ (x : ℕ). lesser x c.before.args.b) c.if1.true ∙ lesser_left c.before.args.b)
+returns : tie.Need-returns-then-a-eq0
+returns c = sym (ap (λ (x : ℕ). lesser x c.before.args.b) c.if-a-eq0.true ∙ lesser_left c.before.args.b)
 
-returns_2 : tie.Need-returns-2
+returns_2 : tie.Need-returns-then-b-eq0
 returns_2 c =
     let s = c.before.before in
-    sym (ap (lesser s.args.a) c.if2.true ∙ lesser_right s.args.a)
+    sym (ap (lesser s.args.a) c.if-b-eq0.true ∙ lesser_right s.args.a)
 
-returns_3 : tie.Need-returns-3
+returns_3 : tie.Need-returns-then-a-b
 returns_3 c =
     let s = c.before.before.before in
     let h : s.args.a ≤ s.args.b = omega arith in
-    sym (known s.args.a s.args.b c.before.before.if1.false c.before.if2.false ∙ min-eq_left h)
+    sym (known s.args.a s.args.b c.before.before.if-a-eq0.false c.before.if-b-eq0.false ∙ min-eq_left h)
 
-returns_4 : tie.Need-returns-4
+returns_4 : tie.Need-returns
 returns_4 c =
     let s = c.before.before.before in
     let h : s.args.b ≤ s.args.a = omega arith in
-    sym (known s.args.a s.args.b c.before.before.if1.false c.before.if2.false ∙ min-eq_right h)
+    sym (known s.args.a s.args.b c.before.before.if-a-eq0.false c.before.if-b-eq0.false ∙ min-eq_right h)
 
 pub lesser_of_spec : {M : Type 1} → statement M
-lesser_of_spec = tie.close (tie.spec returns returns_2 returns_3 returns_4)
+lesser_of_spec = tie.close (tie.spec
+    returns
+    returns_2
+    returns_3
+    returns_4)

@@ -46,88 +46,88 @@ empty : (p : List ℕ) → length p ≡ 0 → p ≡ []
 empty [] e = refl
 empty (x ∷ xs) e = absurd (omega arith)
 
-returns : tie.Need-returns
+returns : tie.Need-returns-then-plan-eq0
 unfolding shown moves once move_bytes
 returns c =
     let s = c.before.before.before.before in
     let p = s.args.plan.now in
-    let e : p ≡ [] = empty p c.if1.true in
+    let e : p ≡ [] = empty p c.if-plan-eq0.true in
     nothing _ s.args.out.now (ap (λ (l : List ℕ). move_bytes (shown (table_of s.args.jobs s.args.rules.now) l) s.args.index) e)
 
-shared_slice_read_job : tie.Need-shared-slice-read-job
+shared_slice_read_job : tie.Need-bounds-plan-0
 shared_slice_read_job c = search rules
 
-cast_job : tie.Need-overflow-cast-job
-cast_job c = omega (arith, c.shared_slice_known3.given 0)
+cast_job : tie.Need-overflow_cast-job
+cast_job c = omega (arith, c.shared_slice_known-3-1.given 0)
 
-find_rule_requires : tie.Need-find-rule-requires
+find_rule_requires : tie.Need-find_rule-i-requires
 find_rule_requires c κs = c.before.before.before.before.before.requires.0
 
-rule_total_requires : tie.Need-rule-total-requires
+rule_total_requires : tie.Need-rule_total-requires
 rule_total_requires c κs = search rules
 
-returns_2 : tie.Need-returns-2
+returns_2 : tie.Need-returns-then-i-rule_total
 returns_2 c =
     let at_find = c.before.before in
     let s = at_find.before.before.before.before.before.before in
-    let h : 0 < length s.args.plan.now = omega (arith, at_find.before.before.if1.false) in
+    let h : 0 < length s.args.plan.now = omega (arith, at_find.before.before.if-plan-eq0.false) in
     nothing _ s.args.out.now
-    (none_found s.args.jobs s.args.rules.now s.args.plan.now s.args.index at_find.find_rule.result h at_find.find_rule.ensures
+    (none_found s.args.jobs s.args.rules.now s.args.plan.now s.args.index at_find.find_rule-i.result h at_find.find_rule-i.ensures
     (omega (arith, c.before.rule_total.ensures)))
 
 -- past the second test there is a rule
-there : (c : tie.Else2) → c.before.before.find_rule.result < rule_count c.before.before.before.before.before.before.before.before.args.rules.now
+there : (c : tie.Else-i-rule_total) → c.before.before.find_rule-i.result < rule_count c.before.before.before.before.before.before.before.before.args.rules.now
 there c = omega (arith, c.before.rule_total.ensures)
 
 -- and the plan is not empty
-not_empty : (c : tie.Else2) → 0 < length c.before.before.before.before.before.before.before.before.args.plan.now
-not_empty c = omega (arith, c.before.before.before.before.if1.false)
+not_empty : (c : tie.Else-i-rule_total) → 0 < length c.before.before.before.before.before.before.before.before.args.plan.now
+not_empty c = omega (arith, c.before.before.before.before.if-plan-eq0.false)
 
-rule_len_requires : tie.Need-rule-len-requires
+rule_len_requires : tie.Need-rule_len-requires
 rule_len_requires c κs =
     let s = c.before.before.before.before.before.before.before.before in
-    good_has_place s.args.jobs s.args.rules.now s.requires.0 c.before.before.find_rule.result (there c)
+    good_has_place s.args.jobs s.args.rules.now s.requires.0 c.before.before.find_rule-i.result (there c)
 
-add_need : tie.Need-overflow-add-need
+add_need : tie.Need-overflow_add-need
 add_need c = search rules
 
-add_need_2 : tie.Need-overflow-add-need-2
+add_need_2 : tie.Need-overflow_add-need-2
 add_need_2 c = search rules
 
-returns_3 : tie.Need-returns-3
+returns_3 : tie.Need-returns-then-out-need
 returns_3 c =
     let at_len = c.before in
     let at_find = at_len.before.before.before in
     let s = at_find.before.before.before.before.before.before in
     let rs = s.args.rules.now in
     let p = s.args.plan.now in
-    let i = at_find.find_rule.result in
+    let i = at_find.find_rule-i.result in
     let h = not_empty at_len.before in
-    let e = one_found s.args.jobs rs p s.args.index i h at_find.find_rule.ensures (there at_len.before) in
+    let e = one_found s.args.jobs rs p s.args.index i h at_find.find_rule-i.ensures (there at_len.before) in
     too_short _ s.args.out.now (omega (arith, ap length e, bytes_length rs i p h, at_len.rule_len.ensures.is))
 
-sub_write_move : tie.Need-overflow-sub-write-move
+sub_write_move : tie.Need-slice_bounds-write_move-count
 sub_write_move c = search rules
 
-part_write_move_start : tie.Need-slice-bounds-write-move-start
+part_write_move_start : tie.Need-slice_bounds-write_move-start
 part_write_move_start c = search rules
 
-part_write_move_end : tie.Need-slice-bounds-write-move-end
+part_write_move_end : tie.Need-slice_bounds-write_move-end
 part_write_move_end c = search rules
 
-write_move_requires : tie.Need-write-move-requires
+write_move_requires : tie.Need-write_move-requires
 write_move_requires c κs =
     let at_len = c.before.before.before in
     let at_find = at_len.before.before.before in
     let s = at_find.before.before.before.before.before.before in
     let rs = s.args.rules.now in
     let p = s.args.plan.now in
-    let i = at_find.find_rule.result in
+    let i = at_find.find_rule-i.result in
     let h = not_empty at_len.before in
     record {
       rule = good_has_place s.args.jobs rs s.requires.0 i (there at_len.before);
       room = subst (λ (l : List ℕ). length (bytes_by rs i l) ≤ length s.args.out.now) (sym (waiting p))
-          (omega (arith, bytes_length rs i p h, at_len.rule_len.ensures.is, c.before.before.if3.false));
+          (omega (arith, bytes_length rs i p h, at_len.rule_len.ensures.is, c.before.before.if-out-need.false));
     }
 
 result_requires : tie.Need-result-requires
@@ -138,15 +138,15 @@ result_requires c κs =
     let s = at_find.before.before.before.before.before.before in
     let rs = s.args.rules.now in
     let p = s.args.plan.now in
-    let i = at_find.find_rule.result in
+    let i = at_find.find_rule-i.result in
     let h = not_empty at_len.before in
     let e = ap (λ (l : List ℕ). length (bytes_by rs i l)) (waiting p) in
     omega (arith, at_write.write_move.ensures.next, e, bytes_length rs i p h, at_len.rule_len.ensures.is, at_len.rule_len.ensures.few, s.requires.1)
 
-same_length : tie.Need-same-length
+same_length : tie.Need-shape_of-out
 same_length c = search rules
 
-returns_4 : tie.Need-returns-4
+returns_4 : tie.Need-returns
 returns_4 c =
     let at_write = c.before.before.before in
     let at_len = at_write.before.before.before.before in
@@ -155,12 +155,12 @@ returns_4 c =
     let rs = s.args.rules.now in
     let p = s.args.plan.now in
     let o = s.args.out.now in
-    let i = at_find.find_rule.result in
+    let i = at_find.find_rule-i.result in
     let h = not_empty at_len.before in
-    let e = one_found s.args.jobs rs p s.args.index i h at_find.find_rule.ensures (there at_len.before) in
+    let e = one_found s.args.jobs rs p s.args.index i h at_find.find_rule-i.ensures (there at_len.before) in
     let w : bytes_by rs i (take (length p - 1) (drop 1 p)) ≡ move_bytes (shown (table_of s.args.jobs rs) p) s.args.index =
     ap (bytes_by rs i) (waiting p) ∙ sym e in
-    written _ o (omega (arith, ap length e, bytes_length rs i p h, at_len.rule_len.ensures.is, at_write.before.before.before.if3.false))
+    written _ o (omega (arith, ap length e, bytes_length rs i p h, at_len.rule_len.ensures.is, at_write.before.before.before.if-out-need.false))
     (to_z-of_z w32 c.result.result (record { sfits = c.result.type_inv }) ∙ c.result.ensures ∙ ap pos (omega (arith, at_write.write_move.ensures.next, ap length w)))
     (at_write.write_move.ensures.output ∙ ap (λ (l : List ℕ). put 0 l o) w)
 

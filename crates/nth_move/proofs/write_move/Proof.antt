@@ -26,12 +26,12 @@ in_a_row m k w waiting xs ys zs e f h =
     (f ∙ ap (put 2 w) e ∙ put_put 0 (low_first m) w xs (omega arith))
     ∙ put_put 0 (low_first m ++ w) waiting xs (omega arith)
 
-put_number_requires : tie.Need-put-number-requires
+put_number_requires : tie.Need-put_number-requires
 put_number_requires c κs =
     let s = c.before.before.before.before.before in
     omega (arith, s.requires.room, bytes_length s.args.rules.now s.args.i s.args.waiting.now)
 
-put_requires : tie.Need-put-requires
+put_requires : tie.Need-put-behind-requires
 put_requires c κs =
     let s = c.before.before.before.before.before.before.before.before.before.before in
     omega (
@@ -42,10 +42,10 @@ put_requires c κs =
       c.before.before.before.before.put_number.auto.1.1.0,
     )
 
-put_requires_2 : tie.Need-put-requires-2
+put_requires_2 : tie.Need-put-requires
 put_requires_2 c κs =
     let s = c.before.before.before.before.before.before.before.before.before.before.before.before.before.before in
-    let k = c.before.before.before.put in
+    let k = c.before.before.before.put-behind in
     omega (
       arith,
       s.requires.room,
@@ -56,8 +56,8 @@ put_requires_2 c κs =
       c.before.before.before.before.before.before.before.before.put_number.auto.1.1.0,
     )
 
-same_length : tie.Need-same-length
-same_length c = c.before.before.put2.auto.0 ∙ c.before.before.before.before.before.before.put.auto.0 ∙ c.before.before.before.before.before.before.before.before.before.before.before.put_number.auto.1.1.0
+same_length : tie.Need-shape_of-out
+same_length c = c.before.before.put.auto.0 ∙ c.before.before.before.before.before.before.put-behind.auto.0 ∙ c.before.before.before.before.before.before.before.before.before.before.before.put_number.auto.1.1.0
 
 returns : tie.Need-returns
 unfolding bytes_by
@@ -66,8 +66,8 @@ returns c =
     let m = c.before.before.before.before.before.before.before.before.before.before.before.before.before.rule_move in
     let n = c.before.before.before.before.before.before.before.before.before.before.before.put_number in
     let f = c.before.before.before.before.before.before.before.rule_after in
-    let k = c.before.before.before.before.before.before.put in
-    let l = c.before.before.put2 in
+    let k = c.before.before.before.before.before.before.put-behind in
+    let l = c.before.before.put in
     let rs = s.args.rules.now in
     let i = s.args.i in
     let w = s.args.waiting.now in
@@ -75,7 +75,7 @@ returns c =
     record {
       next = l.ensures.next ∙ omega (arith, k.ensures.next, ap length f.ensures, bytes_length rs i w);
       output = l.ensures.output
-          ∙ in_a_row m.result k.result f.result.now w o n.new.1.1.0 k.new.0 n.ensures k.ensures.output k.ensures.next
+          ∙ in_a_row m.result k.result f.result.now w o n.new.area k.new.area n.ensures k.ensures.output k.ensures.next
           ∙ ap₂ (λ (x : ℕ) (y : List ℕ). put 0 (low_first x ++ (y ++ w)) o) m.ensures.is f.ensures;
     }
 
@@ -83,10 +83,10 @@ pub write_move_spec : {M : Type 1} → statement M
 write_move_spec =
     tie.close
     (tie.spec
-    (λ c κs. c.before.before.before.requires.rule.inside)  -- rule-move-requires
-    (λ c. omega (arith, c.rule_move.ensures.small))  -- cast-put-number
+    (λ c κs. c.before.before.before.requires.rule.inside)
+    (λ c. omega (arith, c.rule_move.ensures.small))
     put_number_requires
-    (λ c κs. c.before.before.before.before.before.before.before.before.before.requires.rule)  -- rule-after-requires
+    (λ c κs. c.before.before.before.before.before.before.before.before.before.requires.rule)
     put_requires
     put_requires_2
     same_length

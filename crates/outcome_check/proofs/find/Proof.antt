@@ -21,10 +21,10 @@ record Searching (rs slots : List ℕ) (i slot rest : ℕ) : Type 0 where
   way : Way slots (first_slot (rule_at rs i)) (first_rest (rule_at rs i)) slot rest
   ahead : (e : ℕ) → Kept rs slots e → SameStart (rule_at rs e) (rule_at rs i) → Leads slots slot rest e
 
-abbrev invariant_loop : tie.invariant-loop
+abbrev invariant_loop : tie.invariant-loop-i
 invariant_loop rules slots i action slot₀ rest₀ slot rest = Searching rules slots i slot rest
 
-abbrev decreases_loop : tie.decreases-loop
+abbrev decreases_loop : tie.decreases-loop-i
 decreases_loop rules slots i action slot₀ rest₀ slot rest = 2040 - slot
 
 -- the way begins
@@ -65,24 +65,24 @@ module _ (rs slots : List ℕ) (i : ℕ) where
         (leads_on slots (p.ahead e h s));
   }
 
-loop_holds : tie.Need-loop-init invariant_loop decreases_loop
+loop_holds : tie.Need-loop-i-init invariant_loop decreases_loop
 loop_holds c =
     let m = c.before in
     let start = m.before.before in
-    begins start.args.rules.now start.args.slots.now start.args.i c.rule_job.result m.rule_move.result c.rule_job.ensures.is
-    m.rule_move.ensures.is start.requires.1.0
+    begins start.args.rules.now start.args.slots.now start.args.i c.rule_job.result m.rule_move-action.result c.rule_job.ensures.is
+    m.rule_move-action.ensures.is start.requires.1.0
 
 -- the slot that a turn looks at
-module _ (c : tie.At-loop invariant_loop decreases_loop) where
+module _ (c : tie.At-loop-i invariant_loop decreases_loop) where
   abbrev start : tie.Start invariant_loop decreases_loop
   start = c.before.before.before.before
 
-  slot_inside : c.loop.slot < 2040
-  slot_inside = omega (arith, c.loop.invariant.low, start.pre.0)
+  slot_inside : c.loop-i.slot < 2040
+  slot_inside = omega (arith, c.loop-i.invariant.low, start.requires.0)
 
 -- what it holds
-module _ (c : tie.After-wide invariant_loop decreases_loop) where
-  abbrev turn : tie.At-loop invariant_loop decreases_loop
+module _ (c : tie.After-wide-k invariant_loop decreases_loop) where
+  abbrev turn : tie.At-loop-i invariant_loop decreases_loop
   turn = c.before.before
 
   abbrev rs : List ℕ
@@ -91,65 +91,65 @@ module _ (c : tie.After-wide invariant_loop decreases_loop) where
   abbrev slots : List ℕ
   slots = (start turn).args.slots.now
 
-  holds : c.wide.result ≡ get_or slots turn.loop.slot 0
-  holds = c.wide.ensures.is
+  holds : c.wide-k.result ≡ get_or slots turn.loop-i.slot 0
+  holds = c.wide-k.ensures.is
 
-  empty_slot : 252 ≤ c.wide.result → 252 ≤ get_or slots turn.loop.slot 0
+  empty_slot : 252 ≤ c.wide-k.result → 252 ≤ get_or slots turn.loop-i.slot 0
   empty_slot h = omega (arith, h, holds)
 
   -- a rule: it is an earlier one, and the slots below it come later
-  module _ (small : c.wide.result < 252) where
-    rises : (c.wide.result < (start turn).args.i) × (turn.loop.slot < 1536 + 2 * c.wide.result)
+  module _ (small : c.wide-k.result < 252) where
+    rises : (c.wide-k.result < (start turn).args.i) × (turn.loop-i.slot < 1536 + 2 * c.wide-k.result)
     rises =
-        subst (λ (x : ℕ). (x < (start turn).args.i) × (turn.loop.slot < 1536 + 2 * x)) (sym holds)
-        ((start turn).pre.1.1 turn.loop.slot (slot_inside turn) (omega (arith, holds, small)))
+        subst (λ (x : ℕ). (x < (start turn).args.i) × (turn.loop-i.slot < 1536 + 2 * x)) (sym holds)
+        ((start turn).requires.1.1 turn.loop-i.slot (slot_inside turn) (omega (arith, holds, small)))
 
-returns : tie.Need-returns invariant_loop decreases_loop
+returns : tie.Need-returns-then-k-ge252 invariant_loop decreases_loop
 returns c =
     let w = c.before in
-    let p = (turn w).loop.invariant in
+    let p = (turn w).loop-i.invariant in
     record {
       within = omega arith;
       found = λ l. absurd (omega (arith, l));
       free = λ z. record {
         low = p.low;
-        empty = empty_slot w c.if1.true;
-        rest = (turn w).loop.rest;
+        empty = empty_slot w c.if-k-ge252.true;
+        rest = (turn w).loop-i.rest;
         way = p.way;
         none = λ e k s.
             let l = p.ahead e k s in
-            ⊎_elim (λ (q : get_or (slots w) (turn w).loop.slot 0 ≡ e). omega (arith, q, l.small, empty_slot w c.if1.true))
-            (λ (q : (get_or (slots w) (turn w).loop.slot 0 < 252) × Leads (slots w) (slot_below (get_or (slots w) (turn w).loop.slot 0) (turn w).loop.rest) ((turn w).loop.rest / 2) e).
-            omega (arith, q.0, empty_slot w c.if1.true))
+            ⊎_elim (λ (q : get_or (slots w) (turn w).loop-i.slot 0 ≡ e). omega (arith, q, l.small, empty_slot w c.if-k-ge252.true))
+            (λ (q : (get_or (slots w) (turn w).loop-i.slot 0 < 252) × Leads (slots w) (slot_below (get_or (slots w) (turn w).loop-i.slot 0) (turn w).loop-i.rest) ((turn w).loop-i.rest / 2) e).
+            omega (arith, q.0, empty_slot w c.if-k-ge252.true))
             (leads_on (slots w) l);
       };
     }
 
-same_start_requires : tie.Need-same-start-requires invariant_loop decreases_loop
+same_start_requires : tie.Need-same_start-requires invariant_loop decreases_loop
 same_start_requires c κs =
     let w = c.before in
-    (omega (arith, (rises w c.if1.false).0, (start (turn w)).pre.0), (start (turn w)).pre.0.0)
+    (omega (arith, (rises w c.if-k-ge252.false).0, (start (turn w)).requires.0), (start (turn w)).requires.0.0)
 
-returns_2 : tie.Need-returns-2 invariant_loop decreases_loop
+returns_2 : tie.Need-returns-then-same_start invariant_loop decreases_loop
 returns_2 c =
     let e = c.before.before in
-    let before = (rises e.before e.if1.false).0 in record {
+    let before = (rises e.before e.if-k-ge252.false).0 in record {
       within = omega (arith, before);
-      found = λ l. c.before.same_start.ensures.yes c.if2.true;
+      found = λ l. c.before.same_start.ensures.yes c.if-same_start.true;
       free = λ z. absurd (omega (arith, z, before));
     }
 
-loop_less : tie.Need-loop-smaller invariant_loop decreases_loop
+loop_less : tie.Need-loop-i-smaller invariant_loop decreases_loop
 loop_less c =
     let e = c.before.before in
-    omega (arith, rises e.before e.if1.false, slot_inside (turn e.before))
+    omega (arith, rises e.before e.if-k-ge252.false, slot_inside (turn e.before))
 
-loop_again : tie.Need-loop-preserved invariant_loop decreases_loop
+loop_again : tie.Need-loop-i-preserved invariant_loop decreases_loop
 loop_again c =
     let e = c.before.before in
     let w = e.before in
-    goes_on (rs w) (slots w) (start (turn w)).args.i (turn w).loop.slot (turn w).loop.rest w.wide.result (holds w) e.if1.false
-    (rises w e.if1.false).0 (λ s. never_both c.before.same_start.result (c.before.same_start.ensures.no s) c.if2.false) (turn w).loop.invariant
+    goes_on (rs w) (slots w) (start (turn w)).args.i (turn w).loop-i.slot (turn w).loop-i.rest w.wide-k.result (holds w) e.if-k-ge252.false
+    (rises w e.if-k-ge252.false).0 (λ s. never_both c.before.same_start.result (c.before.same_start.ensures.no s) c.if-same_start.false) (turn w).loop-i.invariant
 
 pub find_spec : {M : Type 1} → statement M
 find_spec =
@@ -157,19 +157,19 @@ find_spec =
     (tie.spec
     invariant_loop
     decreases_loop
-    (λ c κs. search rules)  -- rule-move-requires
-    (λ c. search rules)  -- cast-action
-    (λ c κs. search rules)  -- rule-job-requires
-    (λ c. search rules)  -- mul-slot
-    (λ c. search rules)  -- add-slot
+    (λ c κs. search rules)
+    (λ c. search rules)
+    (λ c κs. search rules)
+    (λ c. search rules)
+    (λ c. search rules)
     loop_holds
-    (λ c. slot_inside c)  -- element-copy-out-wide
-    (λ c κs. search rules)  -- wide-requires
+    (λ c. slot_inside c)
+    (λ c κs. search rules)
     returns
     same_start_requires
     returns_2
-    (λ c. omega (arith, c.before.before.if1.false))  -- mul-slot-2
-    (λ c. omega (arith, c.before.before.if1.false))  -- add-slot-2
-    (λ c. omega (arith, c.before.before.if1.false))  -- add-slot-3
+    (λ c. omega (arith, c.before.before.if-k-ge252.false))
+    (λ c. omega (arith, c.before.before.if-k-ge252.false))
+    (λ c. omega (arith, c.before.before.if-k-ge252.false))
     loop_less
     loop_again)

@@ -24,44 +24,44 @@ no_more : (bytes : List ℕ) → all_zero (drop (length bytes) bytes) ≡ true
 unfolding all_zero
 no_more bytes = rw drop-length
 
-abbrev invariant_loop : tie.invariant-loop
+abbrev invariant_loop : tie.invariant-loop-i
 invariant_loop bytes i₀ i = (i ≤ length bytes) × (all_zero bytes ≡ all_zero (drop i bytes))
 
-abbrev decreases_loop : tie.decreases-loop
+abbrev decreases_loop : tie.decreases-loop-i
 decreases_loop bytes i₀ i = length bytes - i
 
-loop_holds : tie.Need-loop-init invariant_loop decreases_loop
+loop_holds : tie.Need-loop-i-init invariant_loop decreases_loop
 loop_holds c = (omega arith, refl)
 
-shared_slice_read_if1 : tie.Need-shared-slice-read-if1 invariant_loop decreases_loop
+shared_slice_read_if1 : tie.Need-bounds-bytes-i invariant_loop decreases_loop
 shared_slice_read_if1 c = omega arith
 
-add_i : tie.Need-overflow-add-i invariant_loop decreases_loop
+add_i : tie.Need-overflow_add-i invariant_loop decreases_loop
 add_i c = omega arith
 
-loop_less : tie.Need-loop-smaller invariant_loop decreases_loop
+loop_less : tie.Need-loop-i-smaller invariant_loop decreases_loop
 loop_less c = omega arith
 
-loop_again : tie.Need-loop-preserved invariant_loop decreases_loop
+loop_again : tie.Need-loop-i-preserved invariant_loop decreases_loop
 loop_again c =
     let at_loop = c.before.before.before in
     let bytes = at_loop.before.args.bytes.now in
-    let below : at_loop.loop.i < length bytes = omega arith in
-    (omega arith, at_loop.loop.invariant.1 ∙ passed bytes at_loop.loop.i below c.if1.true)
+    let below : at_loop.loop-i.i < length bytes = omega arith in
+    (omega arith, at_loop.loop-i.invariant.1 ∙ passed bytes at_loop.loop-i.i below c.if-bytes-i-eq0.true)
 
-returns : tie.Need-returns invariant_loop decreases_loop
+returns : tie.Need-returns-else-bytes-i-eq0 invariant_loop decreases_loop
 returns c =
     let at_loop = c.before.before.before in
     let bytes = at_loop.before.args.bytes.now in
-    let below : at_loop.loop.i < length bytes = omega arith in
-    sym (at_loop.loop.invariant.1 ∙ failed bytes at_loop.loop.i below c.if1.false)
+    let below : at_loop.loop-i.i < length bytes = omega arith in
+    sym (at_loop.loop-i.invariant.1 ∙ failed bytes at_loop.loop-i.i below c.if-bytes-i-eq0.false)
 
-returns_2 : tie.Need-returns-2 invariant_loop decreases_loop
+returns_2 : tie.Need-returns invariant_loop decreases_loop
 returns_2 c =
     let at_loop = c.before in
     let bytes = at_loop.before.args.bytes.now in
-    let end : at_loop.loop.i ≡ length bytes = omega arith in
-    sym (at_loop.loop.invariant.1 ∙ ap (λ k. all_zero (drop k bytes)) end ∙ no_more bytes)
+    let end : at_loop.loop-i.i ≡ length bytes = omega arith in
+    sym (at_loop.loop-i.invariant.1 ∙ ap (λ k. all_zero (drop k bytes)) end ∙ no_more bytes)
 
 pub all_zero_spec : {M : Type 1} → statement M
 all_zero_spec =

@@ -21,28 +21,28 @@ parts n x r l e =
     let left : 506 - (2 + 8 * r) ≡ 504 - 8 * r = omega arith in
     rw (whole, left, e)
 
-shared_slice_read_wide : tie.Need-shared-slice-read-wide
+shared_slice_read_wide : tie.Need-bounds-block-1
 shared_slice_read_wide c = search rules
 
-wide_requires : tie.Need-wide-requires
+wide_requires : tie.Need-wide-rules-requires
 wide_requires c κs = search rules
 
-mul_end : tie.Need-overflow-mul-end
+mul_end : tie.Need-overflow_mul-end
 mul_end c = search rules
 
-add_end : tie.Need-overflow-add-end
+add_end : tie.Need-overflow_add-end
 add_end c = search rules
 
-sub_places_good : tie.Need-overflow-sub-places-good
+sub_places_good : tie.Need-slice_bounds-places_good-count
 sub_places_good c = search rules
 
-part_places_good_start : tie.Need-slice-bounds-places-good-start
+part_places_good_start : tie.Need-slice_bounds-places_good-start
 part_places_good_start c = search rules
 
-part_places_good_end : tie.Need-slice-bounds-places-good-end
+part_places_good_end : tie.Need-slice_bounds-places_good-end
 part_places_good_end c = search rules
 
-places_good_requires : tie.Need-places-good-requires
+places_good_requires : tie.Need-places_good-requires
 unfolding rules_in_block
 places_good_requires c κs =
     let start = c.before.before.before.before in
@@ -50,34 +50,34 @@ places_good_requires c κs =
     let length_is = start.requires.0 in
     simp (length-take, length-drop) (omega arith)
 
-sub_all_zero : tie.Need-overflow-sub-all-zero
+sub_all_zero : tie.Need-slice_bounds-all_zero-count
 unfolding rules_in_block
 sub_all_zero c = let few = c.before.before.before.before.before.before.requires.1 in omega arith
 
-part_all_zero_start : tie.Need-slice-bounds-all-zero-start
+part_all_zero_start : tie.Need-slice_bounds-all_zero-start
 unfolding rules_in_block
 part_all_zero_start c = let few = c.before.before.before.before.before.before.requires.1 in omega arith
 
-part_all_zero_end : tie.Need-slice-bounds-all-zero-end
+part_all_zero_end : tie.Need-slice_bounds-all_zero-end
 unfolding rules_in_block
 part_all_zero_end c = let few = c.before.before.before.before.before.before.requires.1 in omega arith
 
-all_zero_requires : tie.Need-all-zero-requires
+all_zero_requires : tie.Need-all_zero-requires
 all_zero_requires c κs = search rules
 
-returns : tie.Need-returns
+returns : tie.Need-returns-then-places_good
 returns c =
     let start = c.before.before.before.before.before.before.before.before in
-    let r = c.before.before.before.before.before.wide.result in
-    let e = c.before.before.before.before.before.wide.ensures.is in
-    c.all_zero.ensures ∙ sym (parts start.args.jobs start.args.block.now r start.requires.0 e ∙ rw (sym c.before.before.before.places_good.ensures ∙ c.before.before.if1.true))
+    let r = c.before.before.before.before.before.wide-rules.result in
+    let e = c.before.before.before.before.before.wide-rules.ensures.is in
+    c.all_zero.ensures ∙ sym (parts start.args.jobs start.args.block.now r start.requires.0 e ∙ rw (sym c.before.before.before.places_good.ensures ∙ c.before.before.if-places_good.true))
 
-returns_2 : tie.Need-returns-2
+returns_2 : tie.Need-returns
 returns_2 c =
     let start = c.before.before.before.before.before.before in
-    let r = c.before.before.before.wide.result in
-    let e = c.before.before.before.wide.ensures.is in
-    sym (parts start.args.jobs start.args.block.now r start.requires.0 e ∙ rw (sym c.before.places_good.ensures ∙ c.if1.false))
+    let r = c.before.before.before.wide-rules.result in
+    let e = c.before.before.before.wide-rules.ensures.is in
+    sym (parts start.args.jobs start.args.block.now r start.requires.0 e ∙ rw (sym c.before.places_good.ensures ∙ c.if-places_good.false))
 
 pub block_good_spec : {M : Type 1} → statement M
 block_good_spec =

@@ -32,79 +32,79 @@ rest n xs a l e h k =
     let after : 3 + a - 3 ≡ a = omega arith in
     rw (lt-ltb (get_or xs 0 0) n h, le-leb (get_or xs 2 0) 4 k, tail, after, e)
 
-shared_slice_read_wide : tie.Need-shared-slice-read-wide
+shared_slice_read_wide : tie.Need-bounds-place-0
 shared_slice_read_wide c = search rules
 
 wide_requires : tie.Need-wide-requires
 wide_requires c κs = search rules
 
-returns : tie.Need-returns
+returns : tie.Need-returns-then-jobs-wide
 returns c =
     let start = c.before.before.before.before in
     let bad : start.args.jobs ≤ get_or start.args.place.now 0 0 = omega arith in
     sym (job_bad start.args.jobs start.args.place.now bad)
 
-shared_slice_read_wide_2 : tie.Need-shared-slice-read-wide-2
+shared_slice_read_wide_2 : tie.Need-bounds-place-2
 shared_slice_read_wide_2 c = search rules
 
-wide_requires_2 : tie.Need-wide-requires-2
+wide_requires_2 : tie.Need-wide-after-requires
 wide_requires_2 c κs = search rules
 
-returns_2 : tie.Need-returns-2
+returns_2 : tie.Need-returns-then-after-gt4
 returns_2 c =
     let start = c.before.before.before.before.before.before.before in
     let good : get_or start.args.place.now 0 0 < start.args.jobs = omega arith in
     let bad : 4 < get_or start.args.place.now 2 0 = omega arith in
     sym (count_bad start.args.jobs start.args.place.now good bad)
 
-add_end : tie.Need-overflow-add-end
+add_end : tie.Need-overflow_add-end
 add_end c = search rules
 
-sub_all_below : tie.Need-overflow-sub-all-below
+sub_all_below : tie.Need-slice_bounds-all_below-count
 sub_all_below c = search rules
 
-part_all_below_start : tie.Need-slice-bounds-all-below-start
+part_all_below_start : tie.Need-slice_bounds-all_below-start
 part_all_below_start c = search rules
 
-part_all_below_end : tie.Need-slice-bounds-all-below-end
+part_all_below_end : tie.Need-slice_bounds-all_below-end
 part_all_below_end c = search rules
 
-all_below_requires : tie.Need-all-below-requires
+all_below_requires : tie.Need-all_below-requires
 all_below_requires c κs = search rules
 
-sub_all_zero : tie.Need-overflow-sub-all-zero
+sub_all_zero : tie.Need-slice_bounds-all_zero-count
 sub_all_zero c = search rules
 
-part_all_zero_start : tie.Need-slice-bounds-all-zero-start
+part_all_zero_start : tie.Need-slice_bounds-all_zero-start
 part_all_zero_start c = search rules
 
-part_all_zero_end : tie.Need-slice-bounds-all-zero-end
+part_all_zero_end : tie.Need-slice_bounds-all_zero-end
 part_all_zero_end c = search rules
 
-all_zero_requires : tie.Need-all-zero-requires
+all_zero_requires : tie.Need-all_zero-requires
 all_zero_requires c κs = search rules
 
-returns_3 : tie.Need-returns-3
+returns_3 : tie.Need-returns-then-all_below
 returns_3 c =
     let start = c.before.before.before.before.before.before.before.before.before.before.before.before in
     let n = start.args.jobs in
     let xs = start.args.place.now in
-    let a = c.before.before.before.before.before.before.wide2.result in
+    let a = c.before.before.before.before.before.before.wide-after.result in
     let e : a ≡ get_or xs 2 0 = omega arith in
     let good : get_or xs 0 0 < n = omega arith in
     let few : get_or xs 2 0 ≤ 4 = omega arith in
-    c.all_zero.ensures ∙ sym (rest n xs a start.requires e good few ∙ rw (sym c.before.before.before.all_below.ensures ∙ c.before.before.if3.true))
+    c.all_zero.ensures ∙ sym (rest n xs a start.requires e good few ∙ rw (sym c.before.before.before.all_below.ensures ∙ c.before.before.if-all_below.true))
 
-returns_4 : tie.Need-returns-4
+returns_4 : tie.Need-returns
 returns_4 c =
     let start = c.before.before.before.before.before.before.before.before.before.before in
     let n = start.args.jobs in
     let xs = start.args.place.now in
-    let a = c.before.before.before.before.wide2.result in
+    let a = c.before.before.before.before.wide-after.result in
     let e : a ≡ get_or xs 2 0 = omega arith in
     let good : get_or xs 0 0 < n = omega arith in
     let few : get_or xs 2 0 ≤ 4 = omega arith in
-    sym (rest n xs a start.requires e good few ∙ rw (sym c.before.all_below.ensures ∙ c.if3.false))
+    sym (rest n xs a start.requires e good few ∙ rw (sym c.before.all_below.ensures ∙ c.if-all_below.false))
 
 pub place_good_spec : {M : Type 1} → statement M
 place_good_spec =

@@ -28,65 +28,65 @@ no_more : (n : ℕ) (xs : List ℕ) → places_good 0 n xs ≡ true
 unfolding places_good each_place
 no_more n xs = refl
 
-abbrev invariant_loop : tie.invariant-loop
+abbrev invariant_loop : tie.invariant-loop-k
 invariant_loop jobs count places k₀ k = (k ≤ count) × (places_good count jobs places ≡ places_good (count - k) jobs (drop (8 * k) places))
 
-abbrev decreases_loop : tie.decreases-loop
+abbrev decreases_loop : tie.decreases-loop-k
 decreases_loop jobs count places k₀ k = count - k
 
-loop_holds : tie.Need-loop-init invariant_loop decreases_loop
+loop_holds : tie.Need-loop-k-init invariant_loop decreases_loop
 loop_holds c = (omega arith, simp sub-zero)
 
-mul_a : tie.Need-overflow-mul-a invariant_loop decreases_loop
+mul_a : tie.Need-overflow_mul-a invariant_loop decreases_loop
 mul_a c = omega arith
 
-add_e : tie.Need-overflow-add-e invariant_loop decreases_loop
+add_e : tie.Need-overflow_add-e invariant_loop decreases_loop
 add_e c = omega arith
 
-sub_place_good : tie.Need-overflow-sub-place-good invariant_loop decreases_loop
+sub_place_good : tie.Need-slice_bounds-place_good-count invariant_loop decreases_loop
 sub_place_good c = omega arith
 
-part_place_good_start : tie.Need-slice-bounds-place-good-start invariant_loop decreases_loop
+part_place_good_start : tie.Need-slice_bounds-place_good-start invariant_loop decreases_loop
 part_place_good_start c = omega arith
 
-part_place_good_end : tie.Need-slice-bounds-place-good-end invariant_loop decreases_loop
+part_place_good_end : tie.Need-slice_bounds-place_good-end invariant_loop decreases_loop
 part_place_good_end c = omega arith
 
-place_good_requires : tie.Need-place-good-requires invariant_loop decreases_loop
+place_good_requires : tie.Need-place_good-requires invariant_loop decreases_loop
 place_good_requires c κs =
     let at_loop = c.before.before in
-    part_length at_loop.before.before.args.places.now (8 * at_loop.loop.k) (omega arith)
+    part_length at_loop.before.before.args.places.now (8 * at_loop.loop-k.k) (omega arith)
 
-add_k : tie.Need-overflow-add-k invariant_loop decreases_loop
+add_k : tie.Need-overflow_add-k invariant_loop decreases_loop
 add_k c = omega arith
 
-loop_less : tie.Need-loop-smaller invariant_loop decreases_loop
+loop_less : tie.Need-loop-k-smaller invariant_loop decreases_loop
 loop_less c = omega arith
 
-loop_again : tie.Need-loop-preserved invariant_loop decreases_loop
+loop_again : tie.Need-loop-k-preserved invariant_loop decreases_loop
 loop_again c =
     let at_loop = c.before.before.before.before in
     let args = at_loop.before.before.args in
-    let more : at_loop.loop.k < args.count = omega arith in (
+    let more : at_loop.loop-k.k < args.count = omega arith in (
       omega arith,
-      at_loop.loop.invariant.1 ∙ one_more args.count args.jobs args.places.now at_loop.loop.k more
-          ∙ rw (sym c.before.place_good.ensures ∙ c.if1.true),
+      at_loop.loop-k.invariant.1 ∙ one_more args.count args.jobs args.places.now at_loop.loop-k.k more
+          ∙ rw (sym c.before.place_good.ensures ∙ c.if-place_good.true),
     )
 
-returns : tie.Need-returns invariant_loop decreases_loop
+returns : tie.Need-returns-else-place_good invariant_loop decreases_loop
 returns c =
     let at_loop = c.before.before.before.before in
     let args = at_loop.before.before.args in
-    let more : at_loop.loop.k < args.count = omega arith in
-    sym (at_loop.loop.invariant.1 ∙ one_more args.count args.jobs args.places.now at_loop.loop.k more
-    ∙ rw (sym c.before.place_good.ensures ∙ c.if1.false))
+    let more : at_loop.loop-k.k < args.count = omega arith in
+    sym (at_loop.loop-k.invariant.1 ∙ one_more args.count args.jobs args.places.now at_loop.loop-k.k more
+    ∙ rw (sym c.before.place_good.ensures ∙ c.if-place_good.false))
 
-returns_2 : tie.Need-returns-2 invariant_loop decreases_loop
+returns_2 : tie.Need-returns invariant_loop decreases_loop
 returns_2 c =
     let at_loop = c.before in
     let args = at_loop.before.before.args in
-    let end : args.count - at_loop.loop.k ≡ 0 = omega arith in
-    sym (at_loop.loop.invariant.1 ∙ ap (λ m. places_good m args.jobs (drop (8 * at_loop.loop.k) args.places.now)) end ∙ no_more args.jobs _)
+    let end : args.count - at_loop.loop-k.k ≡ 0 = omega arith in
+    sym (at_loop.loop-k.invariant.1 ∙ ap (λ m. places_good m args.jobs (drop (8 * at_loop.loop-k.k) args.places.now)) end ∙ no_more args.jobs _)
 
 pub places_good_spec : {M : Type 1} → statement M
 places_good_spec =

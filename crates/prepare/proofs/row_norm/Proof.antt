@@ -16,10 +16,10 @@ sum_most ns (j ∷ js) h = omega (arith, h 0 (omega arith), sum_most ns js (λ i
 small : (c : tie.Start) → sum_of c.args.norms.now c.args.row.now ≤ 2048
 small c = omega (arith, sum_most c.args.norms.now c.args.row.now c.requires.most, c.requires.few)
 
-capped_sum_requires : tie.Need-capped-sum-requires
+capped_sum_requires : tie.Need-capped_sum-requires
 capped_sum_requires c κs = search rules
 
-cast_result : tie.Need-overflow-cast-result
+cast_result : tie.Need-overflow_cast-result
 cast_result c = omega (arith, small c.before.before, c.capped_sum.ensures)
 
 returns : tie.Need-returns
@@ -28,4 +28,7 @@ returns c =
     record { is = omega (arith, c.capped_sum.ensures); small = omega (arith, c.capped_sum.ensures) }
 
 pub row_norm_spec : {M : Type 1} → statement M
-row_norm_spec = tie.close (tie.spec capped_sum_requires cast_result returns)
+row_norm_spec = tie.close (tie.spec
+    capped_sum_requires
+    cast_result
+    returns)

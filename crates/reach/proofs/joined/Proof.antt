@@ -7,5 +7,5 @@ pub joined_spec : {M : Type 1} → statement M
 joined_spec =
     tie.close
     (tie.spec
-    (λ c κs. search rules)  -- lesser-requires
+    (λ c κs. search rules)
     (λ c. search rules))  -- returns

@@ -13,11 +13,11 @@ use Rattle.reach.specs.Cells.{word_bytes, cell_bytes}
 use Rattle.reach.proofs.put_reach.Statement.{statement}
 use Rattle.reach.proofs.put_reach.Tie as tie
 
-module _ (c : tie.After-struct-known) where
-  abbrev second : tie.After-put-word2
+module _ (c : tie.After-struct_known-1) where
+  abbrev second : tie.After-put_word-2
   second = c.before.before.before
 
-  abbrev first : tie.After-put-word
+  abbrev first : tie.After-put_word
   first = second.before.before.before.before
 
   abbrev start : tie.Start
@@ -30,10 +30,10 @@ module _ (c : tie.After-struct-known) where
   words = word_bytes start.args.reach.low ++ word_bytes start.args.reach.high
 
   -- both words
-  both : second.put_word2.last.0 ≡ put at words start.args.cells.now
+  both : second.put_word-2.new.bytes ≡ put at words start.args.cells.now
   unfolding word_bytes low_first
   both =
-      second.put_word2.ensures ∙ ap (put (at + 8) (word_bytes start.args.reach.high)) first.put_word.ensures
+      second.put_word-2.ensures ∙ ap (put (at + 8) (word_bytes start.args.reach.high)) first.put_word.ensures
       ∙ put_put at (word_bytes start.args.reach.low) (word_bytes start.args.reach.high) start.args.cells.now (omega arith)
 
   sixteen : length words ≡ 16
@@ -43,9 +43,9 @@ module _ (c : tie.After-struct-known) where
   long : length (put at words start.args.cells.now) ≡ length start.args.cells.now
   long = put_length at words start.args.cells.now (omega (arith, sixteen))
 
-same_length : tie.Need-same-length
+same_length : tie.Need-shape_of-cells
 same_length c =
-    length-set (second c).put_word2.new.0 (at c + 16) ((start c).args.reach.least % 256) ∙ ap length (both c) ∙ long c
+    length-set (second c).put_word-2.new.bytes (at c + 16) ((start c).args.reach.least % 256) ∙ ap length (both c) ∙ long c
 
 returns : tie.Need-returns
 unfolding cell_bytes word_bytes low_first
@@ -60,12 +60,12 @@ pub put_reach_spec : {M : Type 1} → statement M
 put_reach_spec =
     tie.close
     (tie.spec
-    (λ c. search rules)  -- mul-at
-    (λ c κs. search rules)  -- put-word-requires
-    (λ c. search rules)  -- add-put-word
-    (λ c κs. search rules)  -- put-word-requires-2
-    (λ c. search rules)  -- cast-cells
-    (λ c. search rules)  -- add-cells
-    (λ c. search rules)  -- slice-write-cells
+    (λ c. search rules)
+    (λ c κs. search rules)
+    (λ c. search rules)
+    (λ c κs. search rules)
+    (λ c. search rules)
+    (λ c. search rules)
+    (λ c. search rules)
     same_length
     returns)

@@ -20,10 +20,10 @@ returns c =
     let s = g.before.before.before in
     let v = s.args.value in
     let at = s.args.at in
-    d.put_number4.ensures
+    d.put_number-4.ensures
     ∙ ap (put (at + 6) (low_first (v / 281474976710656)))
-    (e.put_number3.ensures
-    ∙ ap (put (at + 4) (low_first (v / 4294967296))) (f.put_number2.ensures ∙ ap (put (at + 2) (low_first (v / 65536))) g.put_number.ensures))
+    (e.put_number-3.ensures
+    ∙ ap (put (at + 4) (low_first (v / 4294967296))) (f.put_number-2.ensures ∙ ap (put (at + 2) (low_first (v / 65536))) g.put_number.ensures))
     ∙ put_four at (low_first v) (low_first (v / 65536)) (low_first (v / 4294967296)) (low_first (v / 281474976710656)) s.args.bytes.now
     refl refl refl (omega arith)
 
@@ -31,12 +31,12 @@ pub put_word_spec : {M : Type 1} → statement M
 put_word_spec =
     tie.close
     (tie.spec
-    (λ c κs. search rules)  -- put-number-requires
-    (λ c. search rules)  -- add-put-number
-    (λ c κs. search rules)  -- put-number-requires-2
-    (λ c. search rules)  -- add-put-number-2
-    (λ c κs. search rules)  -- put-number-requires-3
-    (λ c. search rules)  -- add-put-number-3
-    (λ c κs. search rules)  -- put-number-requires-4
-    (λ c. search rules)  -- same-length
+    (λ c κs. search rules)
+    (λ c. search rules)
+    (λ c κs. search rules)
+    (λ c. search rules)
+    (λ c κs. search rules)
+    (λ c. search rules)
+    (λ c κs. search rules)
+    (λ c. search rules)
     returns)

@@ -9,12 +9,12 @@ use Rattle.reach.proofs.ReachLaws.{reaches_low, reaches_high}
 use Rattle.reach.proofs.through.Statement.{statement}
 use Rattle.reach.proofs.through.Tie as tie
 
-returns : tie.Need-returns
+returns : tie.Need-returns-then-left-lt64
 returns c =
     let d = c.before.args.left in
     subst (λ (n : ℕ). Alone d n 0 d) (sym (shifted 64 d (omega arith))) (reaches_low d (omega arith))
 
-returns_2 : tie.Need-returns-2
+returns_2 : tie.Need-returns
 returns_2 c =
     let d = c.before.args.left in
     subst (λ (n : ℕ). Alone d 0 n d) (sym (shifted 64 (d - 64) (omega arith))) (reaches_high d (omega arith) (omega arith))
@@ -23,7 +23,7 @@ pub through_spec : {M : Type 1} → statement M
 through_spec =
     tie.close
     (tie.spec
-    (λ c. search rules)  -- shl-t4
+    (λ c. search rules)
     returns
-    (λ c. search rules)  -- shl-t7
+    (λ c. search rules)
     returns_2)

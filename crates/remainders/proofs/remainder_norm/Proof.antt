@@ -14,8 +14,8 @@ pub remainder_norm_spec : {M : Type 1} → statement M
 remainder_norm_spec =
     tie.close
     (tie.spec
-    (λ c. search rules)  -- mul-result
-    (λ c. search rules)  -- element-copy-out-result
-    (λ c. omega (arith, small c.before))  -- cast-result
-    (λ c. omega (arith, small c.before))  -- add-result
+    (λ c. search rules)
+    (λ c. search rules)
+    (λ c. omega (arith, small c.before.before))
+    (λ c. omega (arith, small c.before.before))
     (λ c. search rules))  -- returns

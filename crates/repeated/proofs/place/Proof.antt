@@ -9,13 +9,13 @@ use Rattle.rules.proofs.PlaceLaws.{room}
 use Rattle.repeated.proofs.place.Statement.{statement}
 use Rattle.repeated.proofs.place.Tie as tie
 
-mul_start : tie.Need-overflow-mul-start
+mul_start : tie.Need-overflow_mul-start
 mul_start c = omega (arith, room c.args.rules.now c.args.i c.requires)
 
-add_end : tie.Need-overflow-add-end
+add_end : tie.Need-overflow_add-end
 add_end c = omega (arith, room c.args.rules.now c.args.i c.requires)
 
-part_result_end : tie.Need-slice-bounds-result-end
+part_result_end : tie.Need-slice_bounds-result-end
 part_result_end c = omega (arith, room c.args.rules.now c.args.i c.requires)
 
 returns : tie.Need-returns
@@ -29,7 +29,7 @@ place_spec =
     (tie.spec
     mul_start
     add_end
-    (λ c. search rules)  -- sub-result
-    (λ c. search rules)  -- part-result-start
+    (λ c. search rules)
+    (λ c. search rules)
     part_result_end
     returns)

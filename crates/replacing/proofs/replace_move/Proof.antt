@@ -25,13 +25,13 @@ module _ (c : tie.After-stands) where
   abbrev fs : List ℕ
   fs = start.args.froms.now
 
-  own : c.before.move_in.result ≡ move_in xs
-  own = c.before.move_in.ensures.is
+  own : c.before.move_in-action.result ≡ move_in xs
+  own = c.before.move_in-action.ensures.is
 
   stands_is : c.stands.result ≡ stands_in fs (move_in xs)
   stands_is = c.stands.ensures ∙ ap (stands_in fs) own
 
-returns : tie.Need-returns
+returns : tie.Need-returns-then-stands
 unfolding counts_as
 returns c =
     let m = c.before.before in
@@ -46,9 +46,9 @@ returns c =
     m.set_move.ensures
     ∙ ap (λ (v : ℕ). with_move v xs)
     (to.ensures ∙ ap (sum_at (take n fs) (take n ts)) (own s)
-    ∙ sym (ap (λ (b : Bool). cond b (sum_at (take n fs) (take n ts) a) a) (sym (stands_is s) ∙ taken.if1.true)))
+    ∙ sym (ap (λ (b : Bool). cond b (sum_at (take n fs) (take n ts) a) a) (sym (stands_is s) ∙ taken.if-stands.true)))
 
-returns_2 : tie.Need-returns-2
+returns_2 : tie.Need-returns-else-stands
 unfolding counts_as
 returns_2 c =
     let s = c.before in
@@ -57,18 +57,18 @@ returns_2 c =
     let n = (start s).args.end in
     let xs = (start s).args.place.now in
     let a = move_in xs in
-    sym (ap (λ (v : ℕ). with_move v xs) (ap (λ (b : Bool). cond b (sum_at (take n fs) (take n ts) a) a) (sym (stands_is s) ∙ c.if1.false))
-    ∙ own_move xs (place_of_eight xs (start s).requires.0) (omega (arith, s.before.before.before.slice_known.given 1)))
+    sym (ap (λ (v : ℕ). with_move v xs) (ap (λ (b : Bool). cond b (sum_at (take n fs) (take n ts) a) a) (sym (stands_is s) ∙ c.if-stands.false))
+    ∙ own_move xs (place_of_eight xs (start s).requires.0) (omega (arith, s.before.before.before.slice_known-1.given 1)))
 
 pub replace_move_spec : {M : Type 1} → statement M
 replace_move_spec =
     tie.close
     (tie.spec
-    (λ c κs. search rules)  -- move-in-requires
-    (λ c κs. search rules)  -- stands-requires
-    (λ c κs. search rules)  -- to-move-requires
-    (λ c κs. search rules)  -- set-move-requires
-    (λ c. search rules)  -- same-length
+    (λ c κs. search rules)
+    (λ c κs. search rules)
+    (λ c κs. search rules)
+    (λ c κs. search rules)
+    (λ c. search rules)
     returns
-    (λ c. search rules)  -- same-length-2
+    (λ c. search rules)
     returns_2)

@@ -9,22 +9,22 @@ use Rattle.area.specs.Areas.{put}
 use Rattle.rule_runs.proofs.push.Statement.{statement}
 use Rattle.rule_runs.proofs.push.Tie as tie
 
-rule_after_requires : tie.Need-rule-after-requires
+rule_after_requires : tie.Need-rule_after-after-requires
 rule_after_requires c κs = search rules
 
-sub_to : tie.Need-overflow-sub-to
-sub_to c = omega (arith, ap length c.rule_after.ensures)
+sub_to : tie.Need-overflow_sub-to
+sub_to c = omega (arith, ap length c.rule_after-after.ensures)
 
 put_requires : tie.Need-put-requires
-put_requires c κs = omega (arith, ap length c.before.rule_after.ensures)
+put_requires c κs = omega (arith, ap length c.before.rule_after-after.ensures)
 
-same_length : tie.Need-same-length
+same_length : tie.Need-shape_of-stack
 same_length c = search rules
 
 returns : tie.Need-returns
 returns c =
     let a = c.before.before.before.before.before.before.before.args in
-    let after = c.before.before.before.before.rule_after in
+    let after = c.before.before.before.before.rule_after-after in
     record {
       fits = omega (arith, ap length after.ensures);
       output = c.before.before.put.ensures.output
@@ -32,4 +32,9 @@ returns c =
     }
 
 pub push_spec : {M : Type 1} → statement M
-push_spec = tie.close (tie.spec rule_after_requires sub_to put_requires same_length returns)
+push_spec = tie.close (tie.spec
+    rule_after_requires
+    sub_to
+    put_requires
+    same_length
+    returns)

@@ -10,7 +10,7 @@ returns c = rw sub-zero refl
 
 pub rules_of_spec : {M : Type 1} → statement M
 rules_of_spec = tie.close (tie.spec
-    (λ c. search rules)  -- sub-result
-    (λ c. search rules)  -- part-result-start
-    (λ c. search rules)  -- part-result-end
+    (λ c. search rules)
+    (λ c. search rules)
+    (λ c. search rules)
     returns)
