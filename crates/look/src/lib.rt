@@ -2,9 +2,11 @@
 // pair to standard output. What is put into a line, and of which bytes that were read, is proved; that it is written, no
 // contract can say.
 #![tactic(auto)]
+
 mod reports;
 
-use libc::STDOUT_FILENO;
+// The descriptor of standard output.
+const STANDARD_OUTPUT: i32 = 1;
 
 // The whole run.
 pub fn run() {
@@ -20,7 +22,7 @@ fn show_table(image: &[u8]) -> bool {
     let mut line = [0u8; 64];
     let first = reports::table_report(image, &mut line);
     let size = first.size;
-    if io::write_all(STDOUT_FILENO, &line[0..size]) {
+    if io::write_all(STANDARD_OUTPUT, &line[0..size]) {
         return show_jobs(image, first.jobs);
     }
     false
@@ -43,7 +45,7 @@ fn show_jobs(image: &[u8], jobs: u8) -> bool {
 fn show_job(image: &[u8], job: u8) -> bool {
     let mut line = [0u8; 2128];
     let size = reports::job_report(image, job, &mut line);
-    io::write_all(STDOUT_FILENO, &line[0..size])
+    io::write_all(STANDARD_OUTPUT, &line[0..size])
 }
 
 // Pairs up to the end of the input. A proved loop has to end, so it counts to a number that no run reaches.
@@ -64,7 +66,7 @@ fn show_pair(image: &[u8], pair: u64) -> bool {
     let mut line = [0u8; 64];
     let next = reports::next_line(image, pair, &mut input, &mut line);
     let size = next.size;
-    if io::write_all(STDOUT_FILENO, &line[0..size]) {
+    if io::write_all(STANDARD_OUTPUT, &line[0..size]) {
         return next.again;
     }
     false

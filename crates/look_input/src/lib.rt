@@ -1,9 +1,11 @@
 // What planlook reads: the image, and pairs of plans.
 #![tactic(auto)]
+
 ghost use Rattle.std.specs.Prelude.{◌≡◌, ◌≤◌, length};
 ghost use Rattle.look_input.specs.Input.{block_got, image_got, ImageRead, plan_length, length_got, jobs_got, right_end, Reads, PairRead};
 
-use libc::STDIN_FILENO;
+// The descriptor of standard input.
+const STANDARD_INPUT: i32 = 0;
 
 // What stands where a plan should begin.
 #[derive(Drop)]
@@ -49,12 +51,12 @@ pub fn read_image(area: &mut [u8]) -> usize
     requires { 2048 ≤ length area.old }
     ensures { ImageRead area.new result }
 {
-    let first = io::read_full(STDIN_FILENO, &mut area[0..512]);
+    let first = io::read_full(STANDARD_INPUT, &mut area[0..512]);
     let size = block_got(first, area);
     if size < 512 {
         return 0;
     }
-    let others = io::read_full(STDIN_FILENO, &mut area[512..size]);
+    let others = io::read_full(STANDARD_INPUT, &mut area[512..size]);
     image_got(512 + others, size)
 }
 
@@ -93,13 +95,13 @@ fn read_plan(part: &mut [u8]) -> Got
     requires { 4098 ≤ length part.old }
     ensures { Reads result part.new }
 {
-    let count = io::read_full(STDIN_FILENO, &mut part[0..2]);
+    let count = io::read_full(STANDARD_INPUT, &mut part[0..2]);
     let got = length_got(count, part);
     let Got::Plan(size) = got else {
         return got;
     };
     let end = 2 + size;
-    let jobs = io::read_full(STDIN_FILENO, &mut part[2..end]);
+    let jobs = io::read_full(STANDARD_INPUT, &mut part[2..end]);
     jobs_got(jobs, size)
 }
 

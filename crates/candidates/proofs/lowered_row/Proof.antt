@@ -13,56 +13,56 @@ use Rattle.candidates.proofs.lowered_row.Statement.{statement}
 use Rattle.candidates.proofs.lowered_row.Tie as tie
 
 -- PLACES OF THE CODE: back from the written row to the jobs that are lent, to the rule, to the start
-abbrev start : tie.After-lowering-rule → tie.Start
+abbrev start : tie.After-lowering_rule-rule → tie.Start
 start c = c.before.before.before.before
 
-abbrev rule : tie.After-rule-after → tie.After-lowering-rule
+abbrev rule : tie.After-rule_after → tie.After-lowering_rule-rule
 rule c = c.before.before
 
 -- the jobs as they are lent
-jobs_are : (c : tie.After-rule-after) →
+jobs_are : (c : tie.After-rule_after) →
     let a = (start (rule c)).args in
     c.rule_after.result.now ≡ (rule_at a.rules.now (get_or a.facts.now (72 + a.y) 0)).after
-jobs_are c = c.rule_after.ensures ∙ ap (λ (i : ℕ). (rule_at (start (rule c)).args.rules.now i).after) (rule c).lowering_rule.ensures
+jobs_are c = c.rule_after.ensures ∙ ap (λ (i : ℕ). (rule_at (start (rule c)).args.rules.now i).after) (rule c).lowering_rule-rule.ensures
 
-lowering_rule_requires : tie.Need-lowering-rule-requires
+lowering_rule_requires : tie.Need-lowering_rule-rule-requires
 lowering_rule_requires c κs =
     let s = c.before.before.before in
     let a = s.args in
     job_small a.rules.now a.facts.now a.new.now a.area.now a.y s.requires.0
 
-rule_after_requires : tie.Need-rule-after-requires
+rule_after_requires : tie.Need-rule_after-requires
 rule_after_requires c κs =
     let s = start c.before in
     let a = s.args in
-    subst (HasPlace a.rules.now) (sym c.before.lowering_rule.ensures)
-    (rule_there a.rules.now a.facts.now a.new.now a.area.now a.y s.pre.0)
+    subst (HasPlace a.rules.now) (sym c.before.lowering_rule-rule.ensures)
+    (rule_there a.rules.now a.facts.now a.new.now a.area.now a.y s.requires.0)
 
-write_expansion_requires : tie.Need-write-expansion-requires
+write_expansion_requires : tie.Need-write_expansion-requires
 write_expansion_requires c κs =
     let l = c.before in
     let s = start (rule l) in
     let a = s.args in
-    let half = new_lent a.area.now s.pre.0.size in
+    let half = new_lent a.area.now s.requires.0.size in
     let lent = l.rule_after.result.now in (
-      lowered_readable a.rules.now a.facts.now a.new.now a.area.now a.y s.pre.0 _ lent half (jobs_are l),
-      lowered_room a.rules.now a.facts.now a.new.now a.area.now a.y s.pre.0 _ lent half (jobs_are l) a.out.now s.pre.1,
+      lowered_readable a.rules.now a.facts.now a.new.now a.area.now a.y s.requires.0 _ lent half (jobs_are l),
+      lowered_room a.rules.now a.facts.now a.new.now a.area.now a.y s.requires.0 _ lent half (jobs_are l) a.out.now s.requires.1,
     )
 
 -- THE ROW is written
-written : (c : tie.After-write-expansion) →
+written : (c : tie.After-write_expansion) →
     let s = start (rule c.before.before) in
     let a = s.args in
-    LoweredRow a.rules.now a.facts.now (row a.new.now (new_half a.area.now)) a.y c.write_expansion.new.1.1.1.0
+    LoweredRow a.rules.now a.facts.now (row a.new.now (new_half a.area.now)) a.y c.write_expansion.new.out
     c.write_expansion.result
 written c =
     let l = c.before.before in
     let s = start (rule l) in
     let a = s.args in
-    lowered_row a.rules.now a.facts.now a.new.now a.area.now a.y s.pre.0 _ l.rule_after.result.now
-    (new_lent a.area.now s.pre.0.size) (jobs_are l) a.out.now _ c.write_expansion.result s.pre.1 c.write_expansion.ensures
+    lowered_row a.rules.now a.facts.now a.new.now a.area.now a.y s.requires.0 _ l.rule_after.result.now
+    (new_lent a.area.now s.requires.0.size) (jobs_are l) a.out.now _ c.write_expansion.result s.requires.1 c.write_expansion.ensures
 
-same_length : tie.Need-same-length
+same_length : tie.Need-shape_of-out
 same_length c =
     let w = c.before.before in
     (written w).size ∙ sym (start (rule w.before.before)).requires.1
@@ -75,9 +75,9 @@ lowered_row_spec =
     tie.close
     (tie.spec
     lowering_rule_requires
-    (λ c. search rules)  -- sub-write-expansion
-    (λ c. search rules)  -- part-write-expansion-start
-    (λ c. search rules)  -- part-write-expansion-end
+    (λ c. search rules)
+    (λ c. search rules)
+    (λ c. search rules)
     rule_after_requires
     write_expansion_requires
     same_length

@@ -37,7 +37,7 @@ loop_again c =
     let x = c.before.before.wide in
     let row = c.before.before.before.before.before.before.before.args.row.now in
     let a = c.before.joined-value in
-    let b = c.joined2 in
+    let b = c.joined-power in
     reading_more row v.value v.power v.i v.invariant (omega arith) x.result x.ensures.is x.ensures.small a.result b.result
     a.ensures b.ensures
 

@@ -35,7 +35,7 @@ module _ (c : tie.In-loop-bits invariant_loop decreases_loop) where
       let a = (begin turn).args in
       let r = turn.loop-bits.reach in
       skip_within a.cells.now a.first a.word a.start.low a.start.high a.start.least r.low r.high r.least
-      turn.loop-bits.bits turn.loop-bits.cell turn.loop-bits.invariant (begin turn).fits.word.fits c.loop-bits-test.true
+      turn.loop-bits.bits turn.loop-bits.cell turn.loop-bits.invariant (begin turn).ranges.word.fits c.loop-bits-test.true
 
 cast_cell : tie.Need-overflow_cast-cell invariant_loop decreases_loop
 cast_cell c = omega (arith, next c)
@@ -67,7 +67,7 @@ loop_again c =
     let a = (begin i.before).args in
     let r = i.before.loop-bits.reach in
     walk_more a.cells.now a.first a.word a.start.low a.start.high a.start.least r.low r.high r.least
-    i.before.loop-bits.bits i.before.loop-bits.cell i.before.loop-bits.invariant (begin i.before).fits.word.fits i.loop-bits-test.true
+    i.before.loop-bits.bits i.before.loop-bits.cell i.before.loop-bits.invariant (begin i.before).ranges.word.fits i.loop-bits-test.true
     c.before.reach_at.ensures c.joined-reach.ensures
 
 returns : tie.Need-returns invariant_loop decreases_loop
@@ -75,7 +75,7 @@ returns c =
     let a = (begin c.before).args in
     let r = c.before.loop-bits.reach in
     walk_ends a.cells.now a.first a.word a.start.low a.start.high a.start.least r.low r.high r.least
-    c.before.loop-bits.bits c.before.loop-bits.cell c.before.loop-bits.invariant (begin c.before).fits.word.fits (omega (arith, c.loop-bits-test.false))
+    c.before.loop-bits.bits c.before.loop-bits.cell c.before.loop-bits.invariant (begin c.before).ranges.word.fits (omega (arith, c.loop-bits-test.false))
 
 pub onward_word_spec : {M : Type 1} → statement M
 onward_word_spec =

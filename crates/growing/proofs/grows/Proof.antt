@@ -12,44 +12,44 @@ use Rattle.closure.specs.Linked.{Linked}
 use Rattle.growing.proofs.grows.Statement.{statement}
 use Rattle.growing.proofs.grows.Tie as tie
 
-abbrev invariant_loop : tie.invariant-loop
+abbrev invariant_loop : tie.invariant-loop-job
 invariant_loop rows fronts reached job₀ job =
     (job ≤ 24) × ((k : ℕ) → k < job → bit reached k ≡ 1 → Linked rows (get_or fronts k 0) k → ⊥)
 
-abbrev decreases_loop : tie.decreases-loop
+abbrev decreases_loop : tie.decreases-loop-job
 decreases_loop rows fronts reached job₀ job = 24 - job
 
-comes_back_requires : tie.Need-comes-back-requires invariant_loop decreases_loop
+comes_back_requires : tie.Need-comes_back-requires invariant_loop decreases_loop
 comes_back_requires c κs =
     let s = c.before.before.before in
-    (s.requires.0, (s.requires.1.0, omega (arith, c.before.loop_test.true)))
+    (s.requires.0, (s.requires.1.0, omega (arith, c.before.loop-job-test.true)))
 
-returns : tie.Need-returns invariant_loop decreases_loop
+returns : tie.Need-returns-then-comes_back invariant_loop decreases_loop
 unfolding bit
 returns c =
     let b = c.before in
     let i = b.before.before in (
-      (λ e. (i.before.loop.job, b.before.if1.true, b.comes_back.ensures.0 c.if2.true)),
+      (λ e. (i.before.loop-job.job, b.before.if-reached-at-eq1.true, b.comes_back.ensures.0 c.if-comes_back.true)),
       (λ w. refl),
     )
 
-loop_again : tie.Need-loop-preserved invariant_loop decreases_loop
+loop_again : tie.Need-loop-job-preserved-else-comes_back invariant_loop decreases_loop
 loop_again c =
     let b = c.before in
     let i = b.before.before in
-    (omega (arith, i.loop_test.true), below_more _ i.before.loop.job i.before.loop.invariant.1 (λ h l. never_both b.comes_back.result (b.comes_back.ensures.1 l) c.if2.false))
+    (omega (arith, i.loop-job-test.true), below_more _ i.before.loop-job.job i.before.loop-job.invariant.1 (λ h l. never_both b.comes_back.result (b.comes_back.ensures.1 l) c.if-comes_back.false))
 
-loop_again_2 : tie.Need-loop-preserved-2 invariant_loop decreases_loop
+loop_again_2 : tie.Need-loop-job-preserved invariant_loop decreases_loop
 unfolding bit
-loop_again_2 c = let i = c.before in (omega (arith, i.loop_test.true), below_more _ i.before.loop.job i.before.loop.invariant.1 (λ h l. c.if1.false h))
+loop_again_2 c = let i = c.before in (omega (arith, i.loop-job-test.true), below_more _ i.before.loop-job.job i.before.loop-job.invariant.1 (λ h l. c.if-reached-at-eq1.false h))
 
-returns_2 : tie.Need-returns-2 invariant_loop decreases_loop
+returns_2 : tie.Need-returns invariant_loop decreases_loop
 returns_2 c =
     let s = c.before.before in (
       (λ e. absurd (false≢true e)),
       (λ w.
           let (j, b, l) = w in
-          absurd (c.before.loop.invariant.1 j (omega (arith, c.loop_test.false, set_within s.args.reached j 24 b s.requires.1.1)) b l)),
+          absurd (c.before.loop-job.invariant.1 j (omega (arith, c.loop-job-test.false, set_within s.args.reached j 24 b s.requires.1.1)) b l)),
     )
 
 pub grows_spec : {M : Type 1} → statement M
@@ -58,13 +58,13 @@ grows_spec =
     (tie.spec
     invariant_loop
     decreases_loop
-    (λ c. (omega arith, below_none _))  -- loop-holds
-    (λ c. omega (arith, c.loop_test.true))  -- add-job
-    (λ c. omega (arith, c.loop_test.true))  -- shr-if1
+    (λ c. (omega arith, below_none _))
+    (λ c. omega (arith, c.loop-job-test.true))
+    (λ c. omega (arith, c.loop-job-test.true))
     comes_back_requires
     returns
-    (λ c. omega (arith, c.before.before.before.loop_test.true))  -- loop-less
+    (λ c. omega (arith, c.before.before.before.loop-job-test.true))
     loop_again
-    (λ c. omega (arith, c.before.loop_test.true))  -- loop-less-2
+    (λ c. omega (arith, c.before.loop-job-test.true))
     loop_again_2
     returns_2)

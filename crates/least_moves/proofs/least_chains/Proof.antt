@@ -131,21 +131,21 @@ cast_next : tie.Need-overflow_cast-next invariant_loop decreases_loop
 cast_next c = omega (arith, c.follower.ensures.within, (start (looked c.before.before.before)).requires.0.list.few)
 
 element_write_next : tie.Need-bounds-next-i invariant_loop decreases_loop
-element_write_next c = omega (arith, small (looked c.before.before.before))
+element_write_next c = omega (arith, small (looked c.before.before.before.before))
 
 cast_first_2 : tie.Need-overflow_cast-first-then-not_later invariant_loop decreases_loop
-cast_first_2 c = omega (arith, small (looked c.before.before.before))
+cast_first_2 c = omega (arith, small (looked c.before.before.before.before))
 
 array_write_first : tie.Need-bounds-first-j-then-not_later invariant_loop decreases_loop
-array_write_first c = small_job c.before.before.before
+array_write_first c = small_job c.before.before.before.before
 
 loop_less : tie.Need-loop-i-smaller-then-not_later invariant_loop decreases_loop
-loop_less c = omega (arith, (looked c.before.before.before).loop-i-test.true)
+loop_less c = omega (arith, (looked c.before.before.before.before).loop-i-test.true)
 
 -- its move is not later than those of the chain
 loop_again : tie.Need-loop-i-preserved-then-not_later invariant_loop decreases_loop
 loop_again c =
-    let d = c.before.before.before in
+    let d = c.before.before.before.before in
     let t = looked d in
     let inv = t.before.loop-i.invariant in
     let h = c.before.before.not_later.ensures.yes c.before.if-not_later.true in (

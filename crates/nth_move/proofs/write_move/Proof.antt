@@ -39,7 +39,7 @@ put_requires c κs =
       s.requires.room,
       bytes_length s.args.rules.now s.args.i s.args.waiting.now,
       ap length c.rule_after.ensures,
-      c.before.before.before.before.put_number.auto.1.1.0,
+      c.before.before.before.before.put_number.auto.area,
     )
 
 put_requires_2 : tie.Need-put-requires
@@ -52,12 +52,12 @@ put_requires_2 c κs =
       bytes_length s.args.rules.now s.args.i s.args.waiting.now,
       ap length c.before.before.before.before.rule_after.ensures,
       k.ensures.next,
-      k.auto.0,
-      c.before.before.before.before.before.before.before.before.put_number.auto.1.1.0,
+      k.auto.area,
+      c.before.before.before.before.before.before.before.before.put_number.auto.area,
     )
 
 same_length : tie.Need-shape_of-out
-same_length c = c.before.before.put.auto.0 ∙ c.before.before.before.before.before.before.put-behind.auto.0 ∙ c.before.before.before.before.before.before.before.before.before.before.before.put_number.auto.1.1.0
+same_length c = c.before.before.put.auto.area ∙ c.before.before.before.before.before.before.put-behind.auto.area ∙ c.before.before.before.before.before.before.before.before.before.before.before.put_number.auto.area
 
 returns : tie.Need-returns
 unfolding bytes_by

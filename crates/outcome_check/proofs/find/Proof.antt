@@ -83,7 +83,7 @@ module _ (c : tie.At-loop-i invariant_loop decreases_loop) where
 -- what it holds
 module _ (c : tie.After-wide-k invariant_loop decreases_loop) where
   abbrev turn : tie.At-loop-i invariant_loop decreases_loop
-  turn = c.before.before
+  turn = c.before.before.before
 
   abbrev rs : List ℕ
   rs = (start turn).args.rules.now
@@ -163,7 +163,7 @@ find_spec =
     (λ c. search rules)
     (λ c. search rules)
     loop_holds
-    (λ c. slot_inside c)
+    (λ c. slot_inside c.before)
     (λ c κs. search rules)
     returns
     same_start_requires

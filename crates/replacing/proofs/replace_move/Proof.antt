@@ -17,7 +17,7 @@ use Rattle.replacing.proofs.replace_move.Tie as tie
 -- the move of the place, and whether it is a from-move
 module _ (c : tie.After-stands) where
   abbrev start : tie.Start
-  start = c.before.before.before.before
+  start = c.before.before.before
 
   abbrev xs : List ℕ
   xs = start.args.place.now
@@ -58,7 +58,7 @@ returns_2 c =
     let xs = (start s).args.place.now in
     let a = move_in xs in
     sym (ap (λ (v : ℕ). with_move v xs) (ap (λ (b : Bool). cond b (sum_at (take n fs) (take n ts) a) a) (sym (stands_is s) ∙ c.if-stands.false))
-    ∙ own_move xs (place_of_eight xs (start s).requires.0) (omega (arith, s.before.before.before.slice_known-1.given 1)))
+    ∙ own_move xs (place_of_eight xs (start s).requires.0) (omega (arith, s.before.before.slice_known-1.given 1)))
 
 pub replace_move_spec : {M : Type 1} → statement M
 replace_move_spec =

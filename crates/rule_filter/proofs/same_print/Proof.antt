@@ -29,49 +29,49 @@ module _ (c : tie.Start) where
   looked_up i n h e = subst (RulePrint prints (rule_at rs i).after) (sym e) (c.requires.0.rule_prints i h)
 
 -- both numbers
-module _ (c : tie.After-wide-print2) where
+module _ (c : tie.After-wide_print-right) where
   abbrev start : tie.Start
-  start = c.before.before.before.before.before
+  start = c.before.before.before.before.before.before
 
-  left : RulePrint (prints start) (rule_at (rs start) start.args.r).after c.before.before.wide_print.result
-  left = looked_up start start.args.r c.before.before.wide_print.result start.pre.1.0 c.before.before.wide_print.ensures
+  left : RulePrint (prints start) (rule_at (rs start) start.args.r).after c.before.before.wide_print-left.result
+  left = looked_up start start.args.r c.before.before.wide_print-left.result start.requires.1.0 c.before.before.wide_print-left.ensures
 
-  right : RulePrint (prints start) (rule_at (rs start) start.args.s).after c.wide_print2.result
-  right = looked_up start start.args.s c.wide_print2.result start.pre.1.1 c.wide_print2.ensures
+  right : RulePrint (prints start) (rule_at (rs start) start.args.s).after c.wide_print-right.result
+  right = looked_up start start.args.s c.wide_print-right.result start.requires.1.1 c.wide_print-right.ensures
 
 joined_requires : tie.Need-joined-requires
 joined_requires c κs =
     let both = c.before.before in
     let at = (start both).requires.0 in
-    (omega (arith, (right both).small, c.if2.false), at.power_small, at.value_small)
+    (omega (arith, (right both).small, c.if-right-eq0.false), at.power_small, at.value_small)
 
-returns_3 : tie.Need-returns-3
+returns_3 : tie.Need-returns
 returns_3 c same =
     let some = c.before in
     let one = some.before in
     let both = one.before in
     let at = start both in
-    let a = both.before.before.wide_print.result in
-    let b = both.wide_print2.result in
+    let a = both.before.before.wide_print-left.result in
+    let b = both.wide_print-right.result in
     eq-eqb a (1 + c.joined.result)
     (numbers_same (rs at) (prints at) at.args.pair.value at.args.pair.power at.args.r at.args.s a b c.joined.result
-    (omega (arith, one.if1.false)) (omega (arith, some.if2.false)) (left both) (right both) c.joined.ensures.is same)
+    (omega (arith, one.if-left-eq0.false)) (omega (arith, some.if-right-eq0.false)) (left both) (right both) c.joined.ensures.is same)
 
 pub same_print_spec : {M : Type 1} → statement M
 same_print_spec =
     tie.close
     (tie.spec
-    (λ c. omega (arith, small c.before c.before.args.r c.before.requires.1.0))  -- add-wide-print
-    (λ c. omega (arith, small c.before c.before.args.r c.before.requires.1.0))  -- mul-wide-print
-    (λ c. omega (arith, small c.before c.before.args.r c.before.requires.1.0))  -- element-copy-out-wide-print
-    (λ c κs. search rules)  -- wide-print-requires
-    (λ c. let s = c.before.before.before in omega (arith, small s s.args.s s.requires.1.1))  -- add-wide-print-2
-    (λ c. let s = c.before.before.before in omega (arith, small s s.args.s s.requires.1.1))  -- mul-wide-print-2
-    (λ c. let s = c.before.before.before in omega (arith, small s s.args.s s.requires.1.1))  -- element-copy-out-wide-print-2
-    (λ c κs. search rules)  -- wide-print-requires-2
-    (λ c same. refl)  -- returns
-    (λ c same. refl)  -- returns-2
-    (λ c. omega (arith, c.if2.false))  -- sub-joined
+    (λ c. omega (arith, small c.before c.before.args.r c.before.requires.1.0))
+    (λ c. omega (arith, small c.before c.before.args.r c.before.requires.1.0))
+    (λ c. omega (arith, small c.before.before c.before.args.r c.before.requires.1.0))
+    (λ c κs. search rules)
+    (λ c. let s = c.before.before.before.before in omega (arith, small s s.args.s s.requires.1.1))
+    (λ c. let s = c.before.before.before.before in omega (arith, small s s.args.s s.requires.1.1))
+    (λ c. let s = c.before.before.before.before in omega (arith, small s s.args.s s.requires.1.1))
+    (λ c κs. search rules)
+    (λ c same. refl)
+    (λ c same. refl)
+    (λ c. omega (arith, c.if-right-eq0.false))
     joined_requires
-    (λ c. omega (arith, c.joined.ensures.small, modulus_is))  -- add-result
+    (λ c. omega (arith, c.joined.ensures.small, modulus_is))
     returns_3)

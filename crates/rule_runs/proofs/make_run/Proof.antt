@@ -87,7 +87,7 @@ module _ (c : tie.After-put_number invariant_loop decreases_loop) where
   begun = c.put_number.new.area
 
   enough : given.args.at + 2 + 2 * sum_of (ns given) (after given) ≤ length begun
-  enough = omega (arith, room given, c.put_number.auto.1.1.0)
+  enough = omega (arith, room given, c.put_number.auto.area)
 
 add_to : tie.Need-overflow_add-to invariant_loop decreases_loop
 add_to c =
@@ -100,7 +100,7 @@ loop_holds c =
     let s = given d in
     let p = d.before.before.before.before.push-top in
     walking_start (n s) (rs s) (ns s) s.requires.0 (after s) (s.args.at + 2) (begun d) (replicate 512 0) p.new.stack p.result
-    (after_over (n s) (rs s) (ns s) s.requires.0 (rule s) (own s).place) (length-replicate {A = ℕ} 512 0) p.auto.1.1.0 p.ensures
+    (after_over (n s) (rs s) (ns s) s.requires.0 (rule s) (own s).place) (length-replicate {A = ℕ} 512 0) p.auto.stack p.ensures
 
 array_read_wide : tie.Need-bounds-stack-top invariant_loop decreases_loop
 array_read_wide c = omega (arith, c.loop-top-test.true)
@@ -232,10 +232,10 @@ loop_again c =
     let t = looked d in
     let s = start t in
     walking_row (n s) (rs s) (ns s) s.requires.0 (after s) (at t) (first_made t) (stack t) (top t) (to t) (made t) (walk t) (further t) (enough (made_one t))
-    (lent d) p.new.area p.result (lent_is d ∙ (chosen s).row (next t) (below t) (known t) (is_short d)) p.ensures p.auto.0
+    (lent d) p.new.area p.result (lent_is d ∙ (chosen s).row (next t) (below t) (known t) (is_short d)) p.ensures p.auto.area
 
 element_copy_out_wide : tie.Need-bounds-low-job invariant_loop decreases_loop
-element_copy_out_wide c = omega (arith, c.before.before.wide-job.ensures.is, below_24 c.before.before.before)
+element_copy_out_wide c = omega (arith, c.before.before.wide-job.ensures.is, below_24 c.before.before.before.before)
 
 wide_requires_2 : tie.Need-wide-next-requires invariant_loop decreases_loop
 wide_requires_2 c κs = search rules
@@ -243,7 +243,7 @@ wide_requires_2 c κs = search rules
 -- a job whose run has no row: its rule
 module _ (c : tie.After-wide-next invariant_loop decreases_loop) where
   abbrev turn : tie.In-loop-top invariant_loop decreases_loop
-  turn = c.before.before.before.before.before
+  turn = c.before.before.before.before.before.before
 
   abbrev k : ℕ
   k = c.wide-next.result
@@ -306,11 +306,11 @@ loop_again_2 c =
     let t = turn d in
     let s = start t in
     walking_rule (n s) (rs s) (ns s) s.requires.0 (after s) (at t) (first_made t) (stack t) (top t) (to t) (made t) (walk t) (further t) (enough (made_one t))
-    (k d) (picks d).lowers (first d) m.rule_move-in-loop-top.result p.new.stack w.new.area p.result m.rule_move-in-loop-top.ensures.is w.ensures w.auto.1.1.0
-    p.ensures (p.auto.1.1.0 ∙ (walk t).size)
+    (k d) (picks d).lowers (first d) m.rule_move-in-loop-top.result p.new.stack w.new.area p.result m.rule_move-in-loop-top.ensures.is w.ensures w.auto.area
+    p.ensures (p.auto.stack ∙ (walk t).size)
 
 same_length : tie.Need-shape_of-made invariant_loop decreases_loop
-same_length c = c.before.loop-top.invariant.same ∙ c.before.before.before.before.put_number.auto.1.1.0
+same_length c = c.before.loop-top.invariant.same ∙ c.before.before.before.before.put_number.auto.area
 
 returns : tie.Need-returns invariant_loop decreases_loop
 returns c =

@@ -56,73 +56,73 @@ module _ (c : tie.Start) where
       Settles rs facts (row old (old_half area)) (row new (new_half area)) y out
   kept = settles_kept rs facts next old new area moved y c.requires
 
-sub_alone : tie.Need-overflow-sub-alone
+sub_alone : tie.Need-slice_bounds-alone-count
 sub_alone c = search rules
 
-part_alone_start : tie.Need-slice-bounds-alone-start
+part_alone_start : tie.Need-slice_bounds-alone-start
 part_alone_start c = search rules
 
-part_alone_end : tie.Need-slice-bounds-alone-end
+part_alone_end : tie.Need-slice_bounds-alone-end
 part_alone_end c = search rules
 
 alone_requires : tie.Need-alone-requires
 alone_requires c κs = search rules
 
-returns : tie.Need-returns
-returns c = prime c.before.before.before.before.before (c.before.alone.ensures.yes c.if1.true)
+returns : tie.Need-returns-then-alone
+returns c = prime c.before.before.before.before.before (c.before.alone.ensures.yes c.if-alone.true)
 
-element_copy_out_if2 : tie.Need-element-copy-out-if2
+element_copy_out_if2 : tie.Need-bounds-moved-y
 element_copy_out_if2 c = search rules
 
-returns_2 : tie.Need-returns-2
-returns_2 c = unsettled c.before.before.before.before.before.before.before
+returns_2 : tie.Need-returns-then-moved-y-gt0
+returns_2 c = unsettled c.before.before.before.before.before.before.before.before
 
-mul_wide : tie.Need-overflow-mul-wide
+mul_wide : tie.Need-overflow_mul-y
 mul_wide c = search rules
 
-shared_slice_read_wide : tie.Need-shared-slice-read-wide
+shared_slice_read_wide : tie.Need-bounds-area-y
 shared_slice_read_wide c = search rules
 
-wide_requires : tie.Need-wide-requires
+wide_requires : tie.Need-wide-x-requires
 wide_requires c κs = search rules
 
-first_rule_requires : tie.Need-first-rule-requires
+first_rule_requires : tie.Need-first_rule-requires
 first_rule_requires c κs = search rules
 
 -- the first job of the old row
-module _ (c : tie.After-wide) where
+module _ (c : tie.After-wide-x) where
   abbrev start : tie.Start
-  start = c.before.before.before.before.before.before.before.before.before
+  start = c.before.before.before.before.before.before.before.before.before.before
 
   abbrev x : ℕ
-  x = c.wide.result
+  x = c.wide-x.result
 
   x_job : x < jobs_in (facts start)
-  x_job = first_job start x c.wide.ensures.is
+  x_job = first_job start x c.wide-x.ensures.is
 
 untouched_requires : tie.Need-untouched-requires
 untouched_requires c κs =
     let entry = start c.before in
-    chain entry (y entry) c.first_rule.result entry.pre.is_job c.first_rule.ensures
+    chain entry (y entry) c.first_rule.result entry.requires.is_job c.first_rule.ensures
 
-first_rule_requires_2 : tie.Need-first-rule-requires-2
+first_rule_requires_2 : tie.Need-first_rule-requires-then-untouched
 first_rule_requires_2 c κs =
     let at = c.before.before.before in
     omega (arith, x_job at, (start at).requires.within.few)
 
-untouched_requires_2 : tie.Need-untouched-requires-2
+untouched_requires_2 : tie.Need-untouched-requires-then-untouched
 untouched_requires_2 c κs =
     let at = c.before.before.before.before in
-    chain (start at) (x at) c.first_rule2.result (x_job at) c.first_rule2.ensures
+    chain (start at) (x at) c.first_rule-then-untouched.result (x_job at) c.first_rule-then-untouched.ensures
 
-returns_3 : tie.Need-returns-3
+returns_3 : tie.Need-returns-then-untouched
 returns_3 c =
     let at = c.before.before.before.before.before in
-    let still : get_or (moved (start at)) (y (start at)) 0 ≡ 0 = omega (arith, at.before.before.if2.false) in
-    kept (start at) c.untouched2.result (x at) still at.wide.ensures.is
-    (c.before.before.before.untouched.ensures c.before.before.if3.true) c.untouched2.ensures
+    let still : get_or (moved (start at)) (y (start at)) 0 ≡ 0 = omega (arith, at.before.before.if-moved-y-gt0.false) in
+    kept (start at) c.untouched-then-untouched.result (x at) still at.wide-x.ensures.is
+    (c.before.before.before.untouched.ensures c.before.before.if-untouched.true) c.untouched-then-untouched.ensures
 
-returns_4 : tie.Need-returns-4
+returns_4 : tie.Need-returns
 returns_4 c = unsettled (start c.before.before.before)
 
 pub settled_spec : {M : Type 1} → statement M
