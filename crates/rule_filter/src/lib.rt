@@ -14,7 +14,7 @@ use rules::{high_differs, low_differs};
 // forward. The norm is that of the job that asks. The gap is the norm of the tail, value and power are its fingerprint by the old rows, and
 // by these rows it stands in the area from `from` up to `to`: there Y's row goes on behind X's. The hint is the place of the rule that is tried
 // first.
-#[derive(Drop)]
+#[derive(Clone, Copy)]
 pub struct Pair {
     pub forward: bool,
     pub mine: usize,

@@ -24,7 +24,7 @@ use Rattle.answering.proofs.Hints.{Hinted, Paired, hinted_start, pairing_hinted,
 use Rattle.answering.proofs.all_answered.Statement.{statement}
 use Rattle.answering.proofs.all_answered.Tie as tie
 
-abbrev invariant_loop : tie.invariant-loop
+abbrev invariant_loop : tie.invariant-loop-k
 invariant_loop rules sums next prints old new area parts known₀ total pair k₀ known ask k =
     Passed rules pair.mine total
     (Answered pair.forward (row old (old_half area)) (row new (new_half area)) rules sums pair.norm pair.gap
@@ -33,7 +33,7 @@ invariant_loop rules sums next prints old new area parts known₀ total pair k�
     (slice pair.from pair.to area) (drop 1 parts) pair.mine pair.other known
     × Hinted rules pair ask
 
-abbrev decreases_loop : tie.decreases-loop
+abbrev decreases_loop : tie.decreases-loop-k
 decreases_loop rules sums next prints old new area parts known₀ total pair k₀ known ask k = total - k
 
 -- the call: the pair
@@ -98,38 +98,38 @@ module _ (c : tie.Start invariant_loop decreases_loop) where
   abbrev MineAnswered : ℕ → Type 0
   MineAnswered = Answered forward d e rs sums norm gap behind tail other
 
-rule_total_requires : tie.Need-rule-total-requires invariant_loop decreases_loop
+rule_total_requires : tie.Need-rule_total-total-requires invariant_loop decreases_loop
 rule_total_requires c κs = search rules
 
-loop_holds : tie.Need-loop-init invariant_loop decreases_loop
+loop_holds : tie.Need-loop-k-init invariant_loop decreases_loop
 loop_holds c =
     let start = c.before.before.before.before in (
-      passed_start (rs start) (pairing start).first (next start) (pairing start).chained (mine start) c.rule_total.result (MineAnswered start)
-          (pairing start).mine_job c.rule_total.ensures (asks start) (pairing start).asks_first,
+      passed_start (rs start) (pairing start).first (next start) (pairing start).chained (mine start) c.rule_total-total.result (MineAnswered start)
+          (pairing start).mine_job c.rule_total-total.ensures (asks start) (pairing start).asks_first,
       start.requires.1.1,
       hinted_start (rs start) start.args.pair (pairing start).hint_on,
     )
 
 -- a turn of the loop
-module _ (c : tie.In-loop invariant_loop decreases_loop) where
+module _ (c : tie.In-loop-k invariant_loop decreases_loop) where
   abbrev entry : tie.Start invariant_loop decreases_loop
   entry = c.before.before.before.before.before.before
 
   abbrev k : ℕ
-  k = c.before.loop.k
+  k = c.before.loop-k.k
 
   abbrev total : ℕ
-  total = c.before.before.rule_total.result
+  total = c.before.before.rule_total-total.result
 
   abbrev passed : Passed (rs entry) (mine entry) total (MineAnswered entry) k
-  passed = c.before.loop.invariant.0
+  passed = c.before.loop-k.invariant.0
 
   -- the pair that asks
   abbrev ask : Pair
-  ask = c.before.loop.ask
+  ask = c.before.loop-k.ask
 
   abbrev asker : Hinted (rs entry) entry.args.pair ask
-  asker = c.before.loop.invariant.2
+  asker = c.before.loop-k.invariant.2
 
   asking : Paired (rs entry) (sums entry) (next entry) (prints entry) (old entry) (new entry) (area entry) (parts entry) ask
   asking =
@@ -139,7 +139,7 @@ module _ (c : tie.In-loop invariant_loop decreases_loop) where
   here : k < rule_count (rs entry)
   here =
       inside (rs entry) (pairing entry).first (next entry) (pairing entry).chained (mine entry) total (MineAnswered entry) k passed
-      c.loop_test.true
+      c.loop-k-test.true
 
   few : k < 252
   few = omega (arith, here, (pairing entry).looks.list.few)
@@ -151,59 +151,59 @@ module _ (c : tie.In-loop invariant_loop decreases_loop) where
   rises = chain_rises (rs entry) (pairing entry).first (next entry) (pairing entry).chained (mine entry) k here passed.on
 
 -- the rule is answered, and the walk goes on
-goes_on : (c : tie.After-wide invariant_loop decreases_loop) →
-    let turn = c.before.before in
-    MineAnswered (entry turn) (k turn) → Passed (rs (entry turn)) (mine (entry turn)) (total turn) (MineAnswered (entry turn)) c.wide.result
+goes_on : (c : tie.After-wide-k invariant_loop decreases_loop) →
+    let turn = c.before.before.before in
+    MineAnswered (entry turn) (k turn) → Passed (rs (entry turn)) (mine (entry turn)) (total turn) (MineAnswered (entry turn)) c.wide-k.result
 goes_on c a =
-    let turn = c.before.before in
+    let turn = c.before.before.before in
     let start = entry turn in
     passed_next (rs start) (pairing start).first (next start) (pairing start).chained (mine start) (total turn) (MineAnswered start) (k turn)
-    (passed turn) turn.loop_test.true
+    (passed turn) turn.loop-k-test.true
     (answered_alike (forward start) (rs start) (sums start) (alike (pairing start).looks) (gap start) (d start) (e start) (norm start) (behind start)
-    (tail start) (other start)) a c.wide.result c.wide.ensures.is
+    (tail start) (other start)) a c.wide-k.result c.wide-k.ensures.is
 
-element_copy_out_wide : tie.Need-element-copy-out-wide invariant_loop decreases_loop
-element_copy_out_wide c = few c
+element_copy_out_wide : tie.Need-bounds-next-r invariant_loop decreases_loop
+element_copy_out_wide c = few c.before
 
-wide_requires : tie.Need-wide-requires invariant_loop decreases_loop
+wide_requires : tie.Need-wide-k-requires invariant_loop decreases_loop
 wide_requires c κs = search rules
 
-element_copy_out_if1 : tie.Need-element-copy-out-if1 invariant_loop decreases_loop
-element_copy_out_if1 c = few c.before.before
+element_copy_out_if1 : tie.Need-bounds-known-r invariant_loop decreases_loop
+element_copy_out_if1 c = few c.before.before.before.before
 
-loop_less : tie.Need-loop-smaller invariant_loop decreases_loop
+loop_less : tie.Need-loop-k-smaller-then-known-r-gt0 invariant_loop decreases_loop
 loop_less c =
-    let turn = c.before.before.before.before in
-    omega (arith, rises turn, c.before.before.wide.ensures.is, turn.loop_test.true)
+    let turn = c.before.before.before.before.before.before in
+    omega (arith, rises turn, c.before.before.wide-k.ensures.is, turn.loop-k-test.true)
 
-loop_again : tie.Need-loop-preserved invariant_loop decreases_loop
+loop_again : tie.Need-loop-k-preserved-then-known-r-gt0 invariant_loop decreases_loop
 loop_again c =
-    let turn = c.before.before.before.before in
-    let known = turn.before.loop.invariant.1 in
-    (goes_on c.before.before (known.own (k turn) (mine_rule turn) c.if1.true), known, asker turn)
+    let turn = c.before.before.before.before.before.before in
+    let known = turn.before.loop-k.invariant.1 in
+    (goes_on c.before.before.before (known.own (k turn) (mine_rule turn) c.if-known-r-gt0.true), known, asker turn)
 
-answer_to_requires : tie.Need-answer-to-requires invariant_loop decreases_loop
+answer_to_requires : tie.Need-answer_to-s-requires invariant_loop decreases_loop
 answer_to_requires c κs =
-    let turn = c.before.before.before.before in
+    let turn = c.before.before.before.before.before.before in
     let at = entry turn in
     let same = sym (asker turn).same in (
       asking turn,
       (
-        subst (λ (a : Pair). EqualOld (old at) (area at) (parts at) (lead a.forward a.mine a.other)) same at.pre.1.0,
+        subst (λ (a : Pair). EqualOld (old at) (area at) (parts at) (lead a.forward a.mine a.other)) same at.requires.1.0,
         subst (λ (a : Pair). MineRule (rs at) a.mine (k turn)) same (mine_rule turn),
       ),
     )
 
 -- what was found for the rule
-module _ (c : tie.After-answer-to invariant_loop decreases_loop) where
-  abbrev turn : tie.In-loop invariant_loop decreases_loop
-  turn = c.before.before.before.before.before
+module _ (c : tie.After-answer_to-s invariant_loop decreases_loop) where
+  abbrev turn : tie.In-loop-k invariant_loop decreases_loop
+  turn = c.before.before.before.before.before.before.before
 
   abbrev start : tie.Start invariant_loop decreases_loop
   start = entry turn
 
   abbrev s : ℕ
-  s = c.answer_to.result
+  s = c.answer_to-s.result
 
   abbrev asked : Rows
   asked = rows_for (ltb (get_or (sums start) (k turn) 0) (norm start)) (d start) (e start)
@@ -218,54 +218,54 @@ module _ (c : tie.After-answer-to invariant_loop decreases_loop) where
       (rest_for falls (slice a.from a.to (area start)) (tail start)) a.other (k turn) s
 
   found : Found (forward start) asked (rs start) (sums start) (gap start) rest (other start) (k turn) s
-  found = subst FoundFor (asker turn).same c.answer_to.ensures
+  found = subst FoundFor (asker turn).same c.answer_to-s.ensures
 
-returns : tie.Need-returns invariant_loop decreases_loop
+returns : tie.Need-returns-then-s-total invariant_loop decreases_loop
 returns c =
     let f = c.before in
     let at = start f in
     none_answered (forward at) (d at) (e at) (rs at) (sums at) (norm at) (gap at) (behind at) (tail at) (mine at) (other at) (k (turn f)) (s f)
-    (found f) (turn f).before.loop.known (omega (arith, c.if2.true, (passed (turn f)).count)) (mine_rule (turn f)) (turn f).before.loop.invariant.1
+    (found f) (turn f).before.loop-k.known (omega (arith, c.if-s-total.true, (passed (turn f)).count)) (mine_rule (turn f)) (turn f).before.loop-k.invariant.1
 
 -- an answer was found
-is_rule : (c : tie.Else2 invariant_loop decreases_loop) → s c.before < rule_count (rs (start c.before))
-is_rule c = omega (arith, c.if2.false, (found c.before).within, (passed (turn c.before)).count)
+is_rule : (c : tie.Else-s-total invariant_loop decreases_loop) → s c.before < rule_count (rs (start c.before))
+is_rule c = omega (arith, c.if-s-total.false, (found c.before).within, (passed (turn c.before)).count)
 
-element_write_known : tie.Need-element-write-known invariant_loop decreases_loop
+element_write_known : tie.Need-bounds-known-s invariant_loop decreases_loop
 element_write_known c = omega (arith, is_rule c, (pairing (start c.before)).looks.list.few)
 
-element_copy_out_wide_2 : tie.Need-element-copy-out-wide-2 invariant_loop decreases_loop
+element_copy_out_wide_2 : tie.Need-bounds-next-s invariant_loop decreases_loop
 element_copy_out_wide_2 c = omega (arith, is_rule c, (pairing (start c.before)).looks.list.few)
 
-wide_requires_2 : tie.Need-wide-requires-2 invariant_loop decreases_loop
+wide_requires_2 : tie.Need-wide-requires invariant_loop decreases_loop
 wide_requires_2 c κs = search rules
 
-loop_less_2 : tie.Need-loop-smaller-2 invariant_loop decreases_loop
+loop_less_2 : tie.Need-loop-k-smaller invariant_loop decreases_loop
 loop_less_2 c =
     let f = c.before.before.before in
     let at = turn f in
-    omega (arith, rises at, f.before.before.before.wide.ensures.is, at.loop_test.taken)
+    omega (arith, rises at, f.before.before.before.wide-k.ensures.is, at.loop-k-test.true)
 
-loop_again_2 : tie.Need-loop-preserved-2 invariant_loop decreases_loop
+loop_again_2 : tie.Need-loop-k-preserved invariant_loop decreases_loop
 loop_again_2 c =
     let answer = c.before.before in
     let f = answer.before in
     let at = start f in (
-      goes_on f.before.before.before
+      goes_on f.before.before.before.before
           (found_answers (forward at) (d at) (e at) (rs at) (sums at) (norm at) (gap at) (behind at) (tail at) (mine at) (other at) (k (turn f))
           (s f) (found f) (is_rule answer)),
       known_more (forward at) (d at) (e at) (rs at) (sums at) (norm at) (gap at) (behind at) (tail at) (mine at) (other at) (k (turn f)) (s f)
-          (found f) (is_rule answer) (turn f).before.loop.known (pairing at).distinct (mine_rule (turn f)) (turn f).before.loop.invariant.1,
+          (found f) (is_rule answer) (turn f).before.loop-k.known (pairing at).distinct (mine_rule (turn f)) (turn f).before.loop-k.invariant.1,
       hinted_next (rs at) (sums at) (next at) (prints at) (old at) (new at) (area at) (parts at) at.args.pair (pairing at) (ask (turn f))
-          (asker (turn f)) (asked f) (rest f) (k (turn f)) (s f) (found f) (is_rule answer) c.wide2.result c.wide2.ensures.is,
+          (asker (turn f)) (asked f) (rest f) (k (turn f)) (s f) (found f) (is_rule answer) c.wide.result c.wide.ensures.is,
     )
 
-returns_2 : tie.Need-returns-2 invariant_loop decreases_loop
+returns_2 : tie.Need-returns invariant_loop decreases_loop
 returns_2 c =
     let start = c.before.before.before.before.before.before in
     every_answered (forward start) (d start) (e start) (rs start) (sums start) (norm start) (gap start) (behind start) (tail start) (mine start)
-    (other start) c.before.loop.known c.before.before.rule_total.result c.before.loop.k c.before.loop.invariant.0 c.loop_test.false
-    c.before.loop.invariant.1
+    (other start) c.before.loop-k.known c.before.before.rule_total-total.result c.before.loop-k.k c.before.loop-k.invariant.0 c.loop-k-test.false
+    c.before.loop-k.invariant.1
 
 pub all_answered_spec : {M : Type 1} → statement M
 all_answered_spec =

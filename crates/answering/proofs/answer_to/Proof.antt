@@ -25,13 +25,13 @@ Off rs sums old new area parts forward norm gap from to r =
     Apart forward (rows_for (ltb (get_or sums r 0) norm) (row old (old_half area)) (row new (new_half area))) rs sums gap
     (rest_for (ltb (get_or sums r 0) norm) (slice from to area) (drop 1 parts)) r
 
-abbrev invariant_loop : tie.invariant-loop
+abbrev invariant_loop : tie.invariant-loop-s
 invariant_loop rules sums next prints old new area parts pair r total k₀ s₀ k s =
     (total ≡ rule_count rules)
     × Searching rules pair.other total
     (Off rules sums old new area parts pair.forward pair.norm pair.gap pair.from pair.to r) s k
 
-abbrev decreases_loop : tie.decreases-loop
+abbrev decreases_loop : tie.decreases-loop-s
 decreases_loop rules sums next prints old new area parts pair r total k₀ s₀ k s = (total - k) + min 1 (total - s)
 
 -- the call: the pair, and the rule that asks
@@ -72,89 +72,89 @@ module _ (c : tie.Start invariant_loop decreases_loop) where
   abbrev pairing : Paired rs sums next c.args.prints.now c.args.old.now c.args.new.now area c.args.parts.now c.args.pair
   pairing = c.requires.0
 
-loop_holds : tie.Need-loop-init invariant_loop decreases_loop
+loop_holds : tie.Need-loop-s-init invariant_loop decreases_loop
 loop_holds c =
     let total = c.before in
     let at = total.before.before.before.before in (
-      total.rule_total.ensures,
-      search_start (rs at) (pairing at).first (next at) (pairing at).chained (other at) total.rule_total.result total.rule_total.ensures
-          (OffHere at) (pairing at).other_job at.args.pair.hint at.args.pair.tries c.first_tried.result (pairing at).hint_on
-          (pairing at).tries_first c.first_tried.ensures,
+      total.rule_total-total.ensures,
+      search_start (rs at) (pairing at).first (next at) (pairing at).chained (other at) total.rule_total-total.result total.rule_total-total.ensures
+          (OffHere at) (pairing at).other_job at.args.pair.hint at.args.pair.tries c.first_tried-s.result (pairing at).hint_on
+          (pairing at).tries_first c.first_tried-s.ensures,
     )
 
 -- a turn of the loop
-module _ (c : tie.In-loop invariant_loop decreases_loop) where
+module _ (c : tie.In-loop-s invariant_loop decreases_loop) where
   abbrev entry : tie.Start invariant_loop decreases_loop
   entry = c.before.before.before.before.before.before.before
 
   abbrev total : ℕ
-  total = c.before.before.before.rule_total.result
+  total = c.before.before.before.rule_total-total.result
 
   abbrev count : total ≡ rule_count (rs entry)
-  count = c.before.loop.invariant.0
+  count = c.before.loop-s.invariant.0
 
   abbrev s : ℕ
-  s = c.before.loop.s
+  s = c.before.loop-s.s
 
   abbrev k : ℕ
-  k = c.before.loop.k
+  k = c.before.loop-s.k
 
   abbrev searching : Searching (rs entry) (other entry) total (OffHere entry) s k
-  searching = c.before.loop.invariant.1
+  searching = c.before.loop-s.invariant.1
 
   here : s < rule_count (rs entry)
-  here = omega (arith, count, c.loop_test.true)
+  here = omega (arith, count, c.loop-s-test.true)
 
-rule_behind_requires : tie.Need-rule-behind-requires invariant_loop decreases_loop
+rule_behind_requires : tie.Need-rule_behind-k-requires invariant_loop decreases_loop
 rule_behind_requires c κs = omega (arith, count c, (pairing (entry c)).looks.list.few)
 
 agrees_requires : tie.Need-agrees-requires invariant_loop decreases_loop
 agrees_requires c κs =
     let turn = c.before in
     let at = entry turn in
-    ((next at, pairing at), (at.pre.1.0, (at.pre.1.1, record { inside = here turn; own = (searching turn).on.own (here turn) })))
+    ((next at, pairing at), (at.requires.1.0, (at.requires.1.1, record { inside = here turn; own = (searching turn).on.own (here turn) })))
 
-returns : tie.Need-returns invariant_loop decreases_loop
+returns : tie.Need-returns-then-agrees invariant_loop decreases_loop
 returns c =
     let turn = c.before.before.before in
     let at = entry turn in
     found_here (forward at) (asked at) (rs at) (sums at) (gap at) (rest at) (r at) (other at) (total turn) (count turn) (s turn) (k turn)
-    (searching turn) turn.loop_test.true (c.before.agrees.ensures.yes c.if1.true)
+    (searching turn) turn.loop-s-test.true (c.before.agrees.ensures.yes c.if-agrees.true)
 
 -- the rule that was tried does not agree
-off : (c : tie.Else1 invariant_loop decreases_loop) → OffHere (entry c.before.before.before) (s c.before.before.before)
+off : (c : tie.Else-agrees invariant_loop decreases_loop) → OffHere (entry c.before.before.before) (s c.before.before.before)
 off c =
     let turn = c.before.before.before in
     let at = entry turn in
     apart (forward at) (asked at) (rs at) (sums at) (gap at) (rest at) (r at) c.before.agrees.result (s turn) c.before.agrees.ensures
-    c.if1.false
+    c.if-agrees.false
 
-loop_less : tie.Need-loop-smaller invariant_loop decreases_loop
+loop_less : tie.Need-loop-s-smaller invariant_loop decreases_loop
 loop_less c =
     let behind = c.before.before in
     let turn = behind.before in
     let at = entry turn in
     search_less (rs at) (pairing at).first (next at) (pairing at).chained (other at) (total turn) (count turn) (OffHere at) (s turn) (k turn)
-    behind.rule_behind.result (searching turn) turn.loop_test.true (off c) behind.rule_behind.ensures
+    behind.rule_behind-k.result (searching turn) turn.loop-s-test.true (off c) behind.rule_behind-k.ensures
 
-loop_again : tie.Need-loop-preserved invariant_loop decreases_loop
+loop_again : tie.Need-loop-s-preserved invariant_loop decreases_loop
 loop_again c =
     let behind = c.before.before in
     let turn = behind.before in
     let at = entry turn in (
       count turn,
       search_next (rs at) (pairing at).first (next at) (pairing at).chained (other at) (total turn) (count turn) (OffHere at) (s turn) (k turn)
-          behind.rule_behind.result (searching turn) turn.loop_test.true
+          behind.rule_behind-k.result (searching turn) turn.loop-s-test.true
           (apart_alike (forward at) (rs at) (sums at) (alike (pairing at).looks) (gap at) (asked at) (rest at) (r at)) (off c)
-          behind.rule_behind.ensures,
+          behind.rule_behind-k.ensures,
     )
 
-returns_2 : tie.Need-returns-2 invariant_loop decreases_loop
+returns_2 : tie.Need-returns invariant_loop decreases_loop
 returns_2 c =
     let at = c.before.before.before.before.before.before.before in
-    let loop = c.before.loop in
-    found_none (forward at) (asked at) (rs at) (sums at) (gap at) (rest at) (r at) (other at) c.before.before.before.rule_total.result
-    loop.invariant.0 loop.s loop.k loop.invariant.1 c.loop_test.false
+    let loop = c.before.loop-s in
+    found_none (forward at) (asked at) (rs at) (sums at) (gap at) (rest at) (r at) (other at) c.before.before.before.rule_total-total.result
+    loop.invariant.0 loop.s loop.k loop.invariant.1 c.loop-s-test.false
 
 pub answer_to_spec : {M : Type 1} → statement M
 answer_to_spec =
@@ -162,8 +162,8 @@ answer_to_spec =
     (tie.spec
     invariant_loop
     decreases_loop
-    (λ c κs. search rules)  -- rule-total-requires
-    (λ c κs. search rules)  -- first-tried-requires
+    (λ c κs. search rules)
+    (λ c κs. search rules)
     loop_holds
     rule_behind_requires
     agrees_requires

@@ -15,9 +15,9 @@ use Rattle.answering.proofs.equal_by_old.Tie as tie
 joined_requires : tie.Need-joined-requires
 joined_requires c κs =
     let start = c.before.before.before.before.before.before in
-    (omega (arith, c.wide_print2.ensures, start.requires.x_small), start.requires.power_small, start.requires.value_small)
+    (omega (arith, c.wide_print-2.ensures, start.requires.x_small), start.requires.power_small, start.requires.value_small)
 
-returns : tie.Need-returns
+returns : tie.Need-returns-then-wide_print-joined
 returns c =
     let two = c.before.before in
     let one = two.before.before in
@@ -25,30 +25,30 @@ returns c =
     let d = row start.args.lens.now start.args.rows.now in
     denied (d start.args.pair.mine ≡ expand d start.args.parts.now)
     (λ e.
-    c.if1.true
+    c.if-wide_print-joined.true
     (one.wide_print.ensures ∙ start.requires.tells e
-    ∙ ap (λ (n : ℕ). join n start.args.pair.power start.args.pair.value) (sym two.wide_print2.ensures)
+    ∙ ap (λ (n : ℕ). join n start.args.pair.power start.args.pair.value) (sym two.wide_print-2.ensures)
     ∙ sym c.before.joined.ensures.is))
 
-slice_aggregate_same_forms : tie.Need-slice-aggregate-same-forms
+slice_aggregate_same_forms : tie.Need-slice_bounds-same_forms-end
 slice_aggregate_same_forms c = search rules
 
-sub_same_forms : tie.Need-overflow-sub-same-forms
+sub_same_forms : tie.Need-slice_bounds-same_forms-count
 sub_same_forms c = search rules
 
-part_same_forms_start : tie.Need-slice-bounds-same-forms-start
+part_same_forms_start : tie.Need-slice_bounds-same_forms-start
 part_same_forms_start c = search rules
 
-part_same_forms_end : tie.Need-slice-bounds-same-forms-end
+part_same_forms_end : tie.Need-slice_bounds-same_forms-end
 part_same_forms_end c = search rules
 
-same_forms_requires : tie.Need-same-forms-requires
+same_forms_requires : tie.Need-same_forms-requires
 same_forms_requires c κs =
     let start = c.before.before.before.before.before.before.before.before.before.before in
     jobs_comparable start.args.prints.now start.args.lens.now start.args.rows.now start.args.parts.now start.args.pair.mine
     start.args.pair.other start.args.pair.value start.args.pair.power start.requires
 
-returns_2 : tie.Need-returns-2
+returns_2 : tie.Need-returns
 returns_2 c =
     let start = c.before.before.before.before.before.before.before.before.before.before.before in
     jobs_tell (row start.args.lens.now start.args.rows.now) start.args.pair.mine start.args.parts.now
@@ -58,18 +58,18 @@ pub equal_by_old_spec : {M : Type 1} → statement M
 equal_by_old_spec =
     tie.close
     (tie.spec
-    (λ c. search rules)  -- mul-wide-print
-    (λ c. search rules)  -- element-copy-out-wide-print
-    (λ c κs. search rules)  -- wide-print-requires
-    (λ c. search rules)  -- mul-wide-print-2
-    (λ c. search rules)  -- element-copy-out-wide-print-2
-    (λ c κs. search rules)  -- wide-print-requires-2
+    (λ c. search rules)
+    (λ c. search rules)
+    (λ c κs. search rules)
+    (λ c. search rules)
+    (λ c. search rules)
+    (λ c κs. search rules)
     joined_requires
     returns
-    (λ c. search rules)  -- cast-left
-    slice_aggregate_same_forms
+    (λ c. search rules)
+    part_same_forms_end
     sub_same_forms
     part_same_forms_start
-    part_same_forms_end
+    (λ c. search rules)
     same_forms_requires
     returns_2)

@@ -105,31 +105,31 @@ module _ (c : tie.Start) where
   old_told : (out : Bool) → Decides out (EqualBy (take 12288 (drop 0 area))) → Decides out (d y ≡ expand d parts)
   old_told out t = subst (λ (l : List ℕ). Decides out (EqualBy l)) (old_lent area) t
 
-sub_equal_by_old : tie.Need-overflow-sub-equal-by-old
+sub_equal_by_old : tie.Need-slice_bounds-equal_by_old-count
 sub_equal_by_old c = search rules
 
-part_equal_by_old_start : tie.Need-slice-bounds-equal-by-old-start
+part_equal_by_old_start : tie.Need-slice_bounds-equal_by_old-start
 part_equal_by_old_start c = search rules
 
-part_equal_by_old_end : tie.Need-slice-bounds-equal-by-old-end
+part_equal_by_old_end : tie.Need-slice_bounds-equal_by_old-end
 part_equal_by_old_end c = search rules
 
-equal_by_old_requires : tie.Need-equal-by-old-requires
+equal_by_old_requires : tie.Need-equal_by_old-requires
 equal_by_old_requires c κs = old_pair c.before.before.before.before
 
 -- whether the two are equal by the old rows
-equal_told : (c : tie.After-equal-by-old) →
+equal_told : (c : tie.After-equal_by_old) →
     let at = c.before.before.before.before.before in
     Decides c.equal_by_old.result (d at (y at) ≡ expand (d at) (parts at))
 equal_told c = old_told c.before.before.before.before.before c.equal_by_old.result c.equal_by_old.ensures
 
 -- they are
-equal_old : (c : tie.Then1) →
+equal_old : (c : tie.Then-equal_by_old) →
     let at = c.before.before.before.before.before.before in
     EqualOld (old at) (area at) (parts at) (y at)
-equal_old c = record { is = (equal_told c.before).yes c.if1.true }
+equal_old c = record { is = (equal_told c.before).yes c.if-equal_by_old.true }
 
-all_answered_requires : tie.Need-all-answered-requires
+all_answered_requires : tie.Need-all_answered-requires
 all_answered_requires c κs =
     let start = c.before.before.before.before.before.before.before in
     let equal = subst (EqualFrom start) (sym start.requires.1.1.0) (equal_old c.before) in
@@ -139,20 +139,20 @@ all_answered_requires c κs =
     (start.requires.0, (equal, none))
 
 -- what the first pass told
-module _ (c : tie.After-all-answered) where
+module _ (c : tie.After-all_answered) where
   abbrev start : tie.Start
   start = c.before.before.before.before.before.before.before.before
 
   abbrev known : List ℕ
-  known = c.all_answered.new.1.1.1.1.1.1.1.1.1.0
+  known = c.all_answered.new.known
 
   first_pass : ToldLeft start known c.all_answered.result true
   first_pass = left_told start known c.all_answered.result c.all_answered.ensures
 
-sub_t19 : tie.Need-overflow-sub-t19
+sub_t19 : tie.Need-overflow_sub-back
 sub_t19 c = search rules
 
-all_answered_requires_2 : tie.Need-all-answered-requires-2
+all_answered_requires_2 : tie.Need-all_answered-requires-then-all_answered
 all_answered_requires_2 c κs =
     let first = c.before.before.before in
     let start = c.before.before.before.before.before.before.before.before.before.before.before in
@@ -165,26 +165,26 @@ all_answered_requires_2 c κs =
     (known first) (first_pass first).knows in
     (turned, (equal_old first.before.before, knows))
 
-returns : tie.Need-returns
+returns : tie.Need-returns-then-all_answered
 returns c =
     let first = c.before.before.before.before in
     let start = c.before.before.before.before.before.before.before.before.before.before.before.before in
     forth_and_back (d start) (e start) (rs start) (sums start) (norm start) (gap start) (behind start) (tail start) (parts start) (y start)
-    (x start) (known first) first.all_answered.result (first_pass first) c.before.before.before.if2.true
+    (x start) (known first) first.all_answered.result (first_pass first) c.before.before.before.if-all_answered.true
     (equal_old first.before.before).is
-    c.all_answered2.new.1.1.1.1.1.1.1.1.1.0 c.all_answered2.result c.all_answered2.ensures
+    c.all_answered-then-all_answered.new.known c.all_answered-then-all_answered.result c.all_answered-then-all_answered.ensures
 
-returns_2 : tie.Need-returns-2
+returns_2 : tie.Need-returns-else-all_answered
 returns_2 c =
     let start = c.before.before.before.before.before.before.before.before.before in
     not_forth (d start) (e start) (rs start) (sums start) (norm start) (gap start) (behind start) (tail start) (parts start) (y start)
-    (x start) (known c.before) c.before.all_answered.result (first_pass c.before) c.if2.false
+    (x start) (known c.before) c.before.all_answered.result (first_pass c.before) c.if-all_answered.false
 
-returns_3 : tie.Need-returns-3
+returns_3 : tie.Need-returns-else-equal_by_old
 returns_3 c =
     let start = c.before.before.before.before.before.before in
     not_equal (d start) (e start) (rs start) (sums start) (norm start) (gap start) (behind start) (tail start) (parts start) (y start)
-    (x start) c.before.equal_by_old.result (equal_told c.before) c.if1.false
+    (x start) c.before.equal_by_old.result (equal_told c.before) c.if-equal_by_old.false
 
 pub fits_spec : {M : Type 1} → statement M
 fits_spec =

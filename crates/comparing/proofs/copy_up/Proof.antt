@@ -7,34 +7,34 @@ use Rattle.comparing.proofs.CopiedUp.{copied, copied_none, copied_size, copied_m
 use Rattle.comparing.proofs.copy_up.Statement.{statement}
 use Rattle.comparing.proofs.copy_up.Tie as tie
 
-abbrev invariant_loop : tie.invariant-loop
+abbrev invariant_loop : tie.invariant-loop-i
 invariant_loop area₀ from to len i₀ area i = (i ≤ len) × (length area ≡ length area₀) × (area ≡ copied from to area₀ i)
 
-abbrev decreases_loop : tie.decreases-loop
+abbrev decreases_loop : tie.decreases-loop-i
 decreases_loop area₀ from to len i₀ area i = len - i
 
-loop_holds : tie.Need-loop-init invariant_loop decreases_loop
+loop_holds : tie.Need-loop-i-init invariant_loop decreases_loop
 loop_holds c =
     let a = c.args in
     (omega arith, refl, copied_none a.from a.to a.area.now)
 
-add_area : tie.Need-overflow-add-area invariant_loop decreases_loop
+add_area : tie.Need-overflow_add-area invariant_loop decreases_loop
 add_area c = omega arith
 
-slice_read_area : tie.Need-slice-read-area invariant_loop decreases_loop
+slice_read_area : tie.Need-bounds-area-from invariant_loop decreases_loop
 slice_read_area c = omega arith
 
-add_area_2 : tie.Need-overflow-add-area-2 invariant_loop decreases_loop
+add_area_2 : tie.Need-overflow_add-area-in-loop-i invariant_loop decreases_loop
 add_area_2 c = omega arith
 
-slice_write_area : tie.Need-slice-write-area invariant_loop decreases_loop
+slice_write_area : tie.Need-bounds-area-to invariant_loop decreases_loop
 slice_write_area c = omega arith
 
-loop_again : tie.Need-loop-preserved invariant_loop decreases_loop
+loop_again : tie.Need-loop-i-preserved invariant_loop decreases_loop
 loop_again c =
     let s = c.before.before.before in
     let a = s.args in
-    let v = c.before.before.loop in
+    let v = c.before.before.loop-i in
     let below : v.i < a.len = omega arith in
     let more = copied_more a.from a.to a.len a.area.now s.requires.0 s.requires.1 v.i below v.area v.invariant.2 in (
       omega arith,
@@ -42,13 +42,13 @@ loop_again c =
       more,
     )
 
-same_length : tie.Need-same-length invariant_loop decreases_loop
-same_length c = c.before.loop.invariant.1
+same_length : tie.Need-shape_of-area invariant_loop decreases_loop
+same_length c = c.before.loop-i.invariant.1
 
 returns : tie.Need-returns invariant_loop decreases_loop
 returns c =
     let a = c.before.before.args in
-    let v = c.before.loop in
+    let v = c.before.loop-i in
     let end : v.i ≡ a.len = omega arith in
     v.invariant.2 ∙ ap (copied a.from a.to a.area.now) end
 
@@ -63,8 +63,8 @@ copy_up_spec =
     slice_read_area
     add_area_2
     slice_write_area
-    (λ c. omega arith)  -- add-i
-    (λ c. omega arith)  -- loop-less
+    (λ c. omega arith)
+    (λ c. omega arith)
     loop_again
     same_length
     returns)

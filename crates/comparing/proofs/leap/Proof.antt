@@ -6,18 +6,18 @@ use Rattle.rows.proofs.EqualRows.{no_leap}
 use Rattle.comparing.proofs.leap.Statement.{statement}
 use Rattle.comparing.proofs.leap.Tie as tie
 
-returns : tie.Need-returns
+returns : tie.Need-returns-then-same_row
 returns c =
     let s = c.before.before.before.before.before.before.before in
     let a = s.args in
-    leap_all a.rows.now a.k a.to a.flat.now a.at s.requires.0 (c.before.same_row.ensures.yes c.if2.true)
+    leap_all a.rows.now a.k a.to a.flat.now a.at s.requires.0 (c.before.same_row.ensures.yes c.if-same_row.true)
 
-returns_2 : tie.Need-returns-2
+returns_2 : tie.Need-returns-else-same_row
 returns_2 c =
     let a = c.before.before.before.before.before.before.before.args in
     no_leap a.rows.now a.k a.to a.flat.now a.at _ (omega arith) (omega arith)
 
-returns_3 : tie.Need-returns-3
+returns_3 : tie.Need-returns-else-n-ge16
 returns_3 c =
     let a = c.before.before.before.args in
     no_leap a.rows.now a.k a.to a.flat.now a.at _ (omega arith) (omega arith)
@@ -26,15 +26,15 @@ pub leap_spec : {M : Type 1} → statement M
 leap_spec =
     tie.close
     (tie.spec
-    (λ c. search rules)  -- sub-n
-    (λ c. search rules)  -- add-up
-    (λ c. search rules)  -- sub-same-row
-    (λ c. search rules)  -- part-same-row-start
-    (λ c. search rules)  -- part-same-row-end
-    (λ c. search rules)  -- sub-same-row-2
-    (λ c. search rules)  -- part-same-row-start-2
-    (λ c. search rules)  -- part-same-row-end-2
-    (λ c κs. search rules)  -- same-row-requires
+    (λ c. search rules)
+    (λ c. search rules)
+    (λ c. search rules)
+    (λ c. search rules)
+    (λ c. search rules)
+    (λ c. search rules)
+    (λ c. search rules)
+    (λ c. search rules)
+    (λ c κs. search rules)
     returns
     returns_2
     returns_3)

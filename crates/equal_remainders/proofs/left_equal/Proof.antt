@@ -76,56 +76,56 @@ module _ (c : tie.Start) where
       afters_comparable halves.jobs rs lens region halves.list (subst (Within halves.jobs lens) (sym g) w) c.args.r c.args.s p q
       c.requires.1.1.0 c.requires.1.1.1 f h
 
-rule_after_requires : tie.Need-rule-after-requires
+rule_after_requires : tie.Need-rule_after-left-requires
 rule_after_requires c κs =
     let at = c.before.before.before in
     good_has_place (halves at).jobs (rs at) (halves at).list at.args.r at.requires.1.1.0
 
-rule_after_requires_2 : tie.Need-rule-after-requires-2
+rule_after_requires_2 : tie.Need-rule_after-right-requires
 rule_after_requires_2 c κs =
     let at = c.before.before.before.before in
     good_has_place (halves at).jobs (rs at) (halves at).list at.args.s at.requires.1.1.1
 
-same_forms_requires : tie.Need-same-forms-requires
+same_forms_requires : tie.Need-same_forms-requires
 same_forms_requires c κs =
     let right = c.before.before.before in
     let at = right.before.before.before.before.before in
     comparable at (new at) (new_half (area at)) (new_part at) (halves at).new_within (new_is at)
-    right.before.rule_after.result.now right.rule_after2.result.now right.before.rule_after.ensures right.rule_after2.ensures
+    right.before.rule_after-left.result.now right.rule_after-right.result.now right.before.rule_after-left.ensures right.rule_after-right.ensures
 
-returns : tie.Need-returns
+returns : tie.Need-returns-then-falls
 returns c =
     let test = c.before.before.before in
     let right = test.before in
     let at = right.before.before.before.before.before in
     let tail = take (length (parts at) - 1) (drop 1 (parts at)) in
     by_rows at c.same_forms.result (row (new at) (new_part at)) tail
-    (rows_new (d at) (new at) (new_part at) (new_half (area at)) at.args.falls test.if1.true (new_is at))
-    (rest_new (behind at) (drop 1 (parts at)) tail at.args.falls test.if1.true (rest_part (parts at) 1))
-    (afters_tell (row (new at) (new_part at)) (rs at) tail at.args.r at.args.s right.before.rule_after.result.now
-    right.rule_after2.result.now c.same_forms.result right.before.rule_after.ensures right.rule_after2.ensures
+    (rows_new (d at) (new at) (new_part at) (new_half (area at)) at.args.falls test.if-falls.true (new_is at))
+    (rest_new (behind at) (drop 1 (parts at)) tail at.args.falls test.if-falls.true (rest_part (parts at) 1))
+    (afters_tell (row (new at) (new_part at)) (rs at) tail at.args.r at.args.s right.before.rule_after-left.result.now
+    right.rule_after-right.result.now c.same_forms.result right.before.rule_after-left.ensures right.rule_after-right.ensures
     c.same_forms.ensures)
 
-same_forms_requires_2 : tie.Need-same-forms-requires-2
+same_forms_requires_2 : tie.Need-same_forms-requires-2
 same_forms_requires_2 c κs =
     let right = c.before.before.before in
     let at = right.before.before.before.before.before in
     comparable at (old at) (old_half (area at)) (old_part at) (halves at).old_within (old_lent (area at))
-    right.before.rule_after.result.now right.rule_after2.result.now right.before.rule_after.ensures right.rule_after2.ensures
+    right.before.rule_after-left.result.now right.rule_after-right.result.now right.before.rule_after-left.ensures right.rule_after-right.ensures
 
-returns_2 : tie.Need-returns-2
+returns_2 : tie.Need-returns
 returns_2 c =
     let test = c.before.before.before in
     let right = test.before in
     let at = right.before.before.before.before.before in
     let part = take (at.args.to - at.args.from) (drop at.args.from (area at)) in
-    by_rows at c.same_forms2.result (row (old at) (old_part at)) part
-    (rows_old (e at) (old at) (old_part at) (old_half (area at)) at.args.falls test.if1.false (old_lent (area at)))
-    (rest_old (behind at) (drop 1 (parts at)) part at.args.falls test.if1.false
+    by_rows at c.same_forms-2.result (row (old at) (old_part at)) part
+    (rows_old (e at) (old at) (old_part at) (old_half (area at)) at.args.falls test.if-falls.false (old_lent (area at)))
+    (rest_old (behind at) (drop 1 (parts at)) part at.args.falls test.if-falls.false
     (middle_part (area at) at.args.from at.args.to (halves at).starts))
-    (afters_tell (row (old at) (old_part at)) (rs at) part at.args.r at.args.s right.before.rule_after.result.now
-    right.rule_after2.result.now c.same_forms2.result right.before.rule_after.ensures right.rule_after2.ensures
-    c.same_forms2.ensures)
+    (afters_tell (row (old at) (old_part at)) (rs at) part at.args.r at.args.s right.before.rule_after-left.result.now
+    right.rule_after-right.result.now c.same_forms-2.result right.before.rule_after-left.ensures right.rule_after-right.ensures
+    c.same_forms-2.ensures)
 
 pub left_equal_spec : {M : Type 1} → statement M
 left_equal_spec =
@@ -133,19 +133,19 @@ left_equal_spec =
     (tie.spec
     rule_after_requires
     rule_after_requires_2
-    (λ c. search rules)  -- sub-same-forms
-    (λ c. search rules)  -- part-same-forms-start
-    (λ c. search rules)  -- part-same-forms-end
-    (λ c. search rules)  -- sub-same-forms-2
-    (λ c. search rules)  -- part-same-forms-start-2
-    (λ c. search rules)  -- part-same-forms-end-2
+    (λ c. search rules)
+    (λ c. search rules)
+    (λ c. search rules)
+    (λ c. search rules)
+    (λ c. search rules)
+    (λ c. search rules)
     same_forms_requires
     returns
-    (λ c. search rules)  -- sub-same-forms-3
-    (λ c. search rules)  -- part-same-forms-start-3
-    (λ c. search rules)  -- part-same-forms-end-3
-    (λ c. search rules)  -- sub-same-forms-4
-    (λ c. search rules)  -- part-same-forms-start-4
-    (λ c. search rules)  -- part-same-forms-end-4
+    (λ c. search rules)
+    (λ c. search rules)
+    (λ c. search rules)
+    (λ c. search rules)
+    (λ c. search rules)
+    (λ c. search rules)
     same_forms_requires_2
     returns_2)

@@ -12,20 +12,20 @@ use Rattle.images.proofs.write_image.Statement.{statement}
 use Rattle.images.proofs.write_image.Tie as tie
 
 -- past the first test
-passed : (c : tie.Else1) → let a = c.before.before.before.before.args in write_refusal a.jobs a.rules.now ≡ 0
-passed c = sym c.before.write_refusal.ensures ∙ c.if1.false
+passed : (c : tie.Else-refusal-ne0) → let a = c.before.before.before.before.args in write_refusal a.jobs a.rules.now ≡ 0
+passed c = sym c.before.write_refusal-refusal.ensures ∙ c.if-refusal-ne0.false
 
-returns : tie.Need-returns
+returns : tie.Need-returns-then-refusal-ne0
 returns c =
-    writes_refused c.before.before.write_refusal.ensures c.before.if1.true
+    writes_refused c.before.before.write_refusal-refusal.ensures c.before.if-refusal-ne0.true
     (to_z-of_z w32 c.refused.result (record { sfits = c.refused.type_inv }) ∙ c.refused.ensures)
 
-returns_2 : tie.Need-returns-2
+returns_2 : tie.Need-returns-then-out-rules
 returns_2 c =
     let e = c.before in
-    writes_done e.before.write_refusal.ensures e.if1.false (too_short _ _ (omega (arith, image_size _ _ (passed e), c.if2.true)))
+    writes_done e.before.write_refusal-refusal.ensures e.if-refusal-ne0.false (too_short _ _ (omega (arith, image_size _ _ (passed e), c.if-out-rules.true)))
 
-write_blocks_requires : tie.Need-write-blocks-requires
+write_blocks_requires : tie.Need-write_blocks-requires
 write_blocks_requires c κs =
     let e = c.before.before in
     (list_passed _ _ (passed e), omega (arith, image_size _ _ (passed e)))
@@ -35,12 +35,12 @@ result_requires c κs =
     let b = c.before.before in
     omega (arith, b.write_blocks.ensures.next, image_small _ _ (passed b.before.before.before))
 
-returns_3 : tie.Need-returns-3
+returns_3 : tie.Need-returns
 returns_3 c =
     let b = c.before.before.before in
     let e = b.before.before.before in
-    writes_done e.before.write_refusal.ensures e.if1.false
-    (written _ _ (omega (arith, image_size _ _ (passed e), b.before.before.if2.false))
+    writes_done e.before.write_refusal-refusal.ensures e.if-refusal-ne0.false
+    (written _ _ (omega (arith, image_size _ _ (passed e), b.before.before.if-out-rules.false))
     (to_z-of_z w32 c.result.result (record { sfits = c.result.type_inv }) ∙ c.result.ensures ∙ ap pos (omega (arith, b.write_blocks.ensures.next)))
     b.write_blocks.ensures.output)
 
@@ -48,13 +48,13 @@ pub write_image_spec : {M : Type 1} → statement M
 write_image_spec =
     tie.close
     (tie.spec
-    (λ c κs. search rules)  -- write-refusal-requires
-    (λ c κs. search rules)  -- refused-requires
+    (λ c κs. search rules)
+    (λ c κs. search rules)
     returns
-    (λ c. search rules)  -- add-if2
-    (λ c. search rules)  -- mul-if2
+    (λ c. search rules)
+    (λ c. search rules)
     returns_2
     write_blocks_requires
     result_requires
-    (λ c. search rules)  -- same-length
+    (λ c. search rules)
     returns_3)

@@ -15,22 +15,22 @@ use Rattle.images.proofs.write_table.Statement.{statement}
 use Rattle.images.proofs.write_table.Tie as tie
 
 -- the bytes of the table, and how many they are
-bytes : (c : tie.After-slice-known) →
+bytes : (c : tie.After-slice_known-1) →
     let a = c.before.before.args in table_bytes (table_of a.jobs a.rules.now) ≡ a.jobs ∷ a.rules.now
 bytes c =
     let s = c.before.before in
-    listed_bytes s.args.jobs s.args.rules.now s.requires (λ i. omega (arith, c.before.shared_slice_known.given i))
+    listed_bytes s.args.jobs s.args.rules.now s.requires (λ i. omega (arith, c.before.shared_slice_known-1.given i))
 
-few : (c : tie.After-slice-known) → length c.before.before.args.rules.now ≤ 2016
+few : (c : tie.After-slice_known-1) → length c.before.before.args.rules.now ≤ 2016
 few c = let g = c.before.before.requires in omega (arith, g.whole, g.few)
 
-returns : tie.Need-returns
-returns c = too_short _ _ (omega (arith, ap length (bytes c.before), c.if1.true))
+returns : tie.Need-returns-then-out-rules
+returns c = too_short _ _ (omega (arith, ap length (bytes c.before), c.if-out-rules.true))
 
-same_length : tie.Need-same-length
-same_length c = c.before.before.before.put.auto.0 ∙ simp length-set
+same_length : tie.Need-shape_of-out
+same_length c = c.before.before.before.put.auto.area ∙ simp length-set
 
-returns_2 : tie.Need-returns-2
+returns_2 : tie.Need-returns
 returns_2 c =
     let w = c.before.before.before in
     let a = w.before.before.before.before.before.args in
@@ -42,11 +42,11 @@ pub write_table_spec : {M : Type 1} → statement M
 write_table_spec =
     tie.close
     (tie.spec
-    (λ c. omega (arith, few c))  -- add-if1
+    (λ c. omega (arith, few c))
     returns
-    (λ c. let g = c.before.before.before.requires in omega (arith, g.jobs))  -- cast-out
-    (λ c. search rules)  -- slice-write-out
-    (λ c κs. search rules)  -- put-requires
-    (λ c κs. let w = c.before.before in omega (arith, w.put.ensures.next, few w.before.before.before))  -- result-requires
+    (λ c. let g = c.before.before.before.requires in omega (arith, g.jobs))
+    (λ c. search rules)
+    (λ c κs. search rules)
+    (λ c κs. let w = c.before.before in omega (arith, w.put.ensures.next, few w.before.before.before))
     same_length
     returns_2)

@@ -17,10 +17,10 @@ returns c =
     record {
       size = r.add_rules.ensures.size ∙ f.clear_level.ensures.size;
       next = λ log inside move known.
-          level_known a.jobs a.rules.now s.requires.1 log a.left a.action r.add_rules.new.0
+          level_known a.jobs a.rules.now s.requires.1 log a.left a.action r.add_rules.new.cells
           (r.add_rules.ensures.added log
-          (level_none a.jobs a.rules.now s.requires.1 log a.left a.action a.cells.now f.clear_level.new.0 s.requires.2
-          (subst (λ (n : ℕ). LevelCleared a.jobs n a.cells.now f.clear_level.new.0) (add-one a.left) f.clear_level.ensures) known))
+          (level_none a.jobs a.rules.now s.requires.1 log a.left a.action a.cells.now f.clear_level.new.cells s.requires.2
+          (subst (λ (n : ℕ). LevelCleared a.jobs n a.cells.now f.clear_level.new.cells) (add-one a.left) f.clear_level.ensures) known))
           inside move;
     }
 
@@ -28,8 +28,8 @@ pub next_level_spec : {M : Type 1} → statement M
 next_level_spec =
     tie.close
     (tie.spec
-    (λ c. search rules)  -- add-clear-level
-    (λ c κs. search rules)  -- clear-level-requires
-    (λ c κs. search rules)  -- add-rules-requires
-    (λ c. search rules)  -- same-length
+    (λ c. search rules)
+    (λ c κs. search rules)
+    (λ c κs. search rules)
+    (λ c. search rules)
     returns)

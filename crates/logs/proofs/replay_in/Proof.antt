@@ -28,20 +28,20 @@ few : 52632 ≤ 65536
 few = omega arith
 
 -- once all checks are made
-module _ (c : tie.After-or-else3) where
-  abbrev both : tie.After-or-else2
-  both = c.before.before.before
+module _ (c : tie.After-or_else-refusal) where
+  abbrev both : tie.After-or_else-of_call
+  both = c.before.before
 
-  abbrev one : tie.After-or-else
+  abbrev one : tie.After-or_else
   one = both.before
 
-  abbrev checked : tie.After-plan-refusal
+  abbrev checked : tie.After-plan_refusal-of_plan
   checked = one.before.before
 
-  abbrev listed : tie.After-replace
+  abbrev listed : tie.After-replace-of_table
   listed = checked.before.before.before
 
-  abbrev loaded : tie.After-load
+  abbrev loaded : tie.After-load-table
   loaded = listed.before.before
 
   abbrev start : tie.Start
@@ -60,67 +60,67 @@ module _ (c : tie.After-or-else3) where
   g = start.args.log.now
 
   abbrev rules : List ℕ
-  rules = listed.replace.last.1.1.0
+  rules = listed.replace-of_table.new.rules
 
-  held : let l = loaded.load.result in Loads (listed_refusal bs ls) (alike_table bs ls) listed.replace.result l.jobs l.end rules l.norms
-  held = listed.replace.ensures _ _ _ _ loaded.load.ensures
+  held : let l = loaded.load-table.result in Loads (listed_refusal bs ls) (alike_table bs ls) listed.replace-of_table.result l.jobs l.end rules l.norms
+  held = listed.replace-of_table.ensures _ _ _ _ loaded.load-table.ensures
 
-  refusal_is : c.or_else3.result ≡ with_space start.args.space.now (plan_and_log bs ls p g)
+  refusal_is : c.or_else-refusal.result ≡ with_space start.args.space.now (plan_and_log bs ls p g)
   refusal_is =
-      space_chain start.args.space.now c.before.refusal2.ensures c.or_else3.ensures
-      (both.or_else2.ensures ∙ ap₂ or_else (plan_chain held p checked.plan_refusal.ensures one.or_else.ensures) one.before.refusal.ensures)
+      space_chain start.args.space.now c.before.refusal.ensures c.or_else-refusal.ensures
+      (both.or_else-of_call.ensures ∙ ap₂ or_else (plan_chain held p checked.plan_refusal-of_plan.ensures one.or_else.ensures) one.before.refusal-of_log.ensures)
 
-  module _ (z : c.or_else3.result ≡ 0) where
-    passed : (65536 ≤ length start.args.space.now) × (both.or_else2.result ≡ 0)
-    passed = space_passed start.args.space.now c.before.refusal2.ensures c.or_else3.ensures z
+  module _ (z : c.or_else-refusal.result ≡ 0) where
+    passed : (65536 ≤ length start.args.space.now) × (both.or_else-of_call.result ≡ 0)
+    passed = space_passed start.args.space.now c.before.refusal.ensures c.or_else-refusal.ensures z
 
-    parts : (one.or_else.result ≡ 0) × (one.before.refusal.result ≡ 0)
-    parts = neither one.or_else.result one.before.refusal.result (sym both.or_else2.ensures ∙ passed.1)
+    parts : (one.or_else.result ≡ 0) × (one.before.refusal-of_log.result ≡ 0)
+    parts = neither one.or_else.result one.before.refusal-of_log.result (sym both.or_else-of_call.ensures ∙ passed.1)
 
-    ready : let l = loaded.load.result in Ready (alike_table bs ls) l.jobs (take l.end rules) l.norms p
-    ready = plan_ready held p checked.plan_refusal.ensures one.or_else.ensures parts.0
+    ready : let l = loaded.load-table.result in Ready (alike_table bs ls) l.jobs (take l.end rules) l.norms p
+    ready = plan_ready held p checked.plan_refusal-of_plan.ensures one.or_else.ensures parts.0
 
     short : length g ≤ 256
-    short = log_short g (sym one.before.refusal.ensures ∙ parts.1)
+    short = log_short g (sym one.before.refusal-of_log.ensures ∙ parts.1)
 
-returns : tie.Need-returns
+returns : tie.Need-returns-then-refusal-ne0
 returns c = record {
-  answer = gives_refused (refusal_is c.before.before) _ c.before.if1.true
+  answer = gives_refused (refusal_is c.before.before) _ c.before.if-refusal-ne0.true
       (to_z-of_z w32 c.refused.result (record { sfits = c.refused.type_inv }) ∙ c.refused.ensures);
   clears = refl;
 }
 
-counted_moves_requires : tie.Need-counted-moves-requires
-counted_moves_requires c κs = short c.before c.if1.false
+counted_moves_requires : tie.Need-counted_moves-moves-requires
+counted_moves_requires c κs = short c.before c.if-refusal-ne0.false
 
-part_replay_end : tie.Need-slice-bounds-replay-end
-part_replay_end c = front_inside 52632 (start c.before.before).args.space.now few (passed c.before.before c.before.if1.false).0
+part_replay_end : tie.Need-slice_bounds-replay-end
+part_replay_end c = front_inside 52632 (start c.before.before).args.space.now few (passed c.before.before c.before.if-refusal-ne0.false).0
 
 replay_requires : tie.Need-replay-requires
 replay_requires c κs =
     let m = c.before.before.before.before.before.before in
     let e = m.before in
-    let k = ready e.before e.if1.false in (
-      (front_size 52632 (start e.before).args.space.now few (passed e.before e.if1.false).0, rw c.before.rules_of.ensures k.good.list, k.within),
-      (m.counted_moves.ensures.size, omega (arith, short e.before e.if1.false)),
+    let k = ready e e.refusal.false in (
+      (front_size 52632 (start e.before).args.space.now few (passed e.before e.if-refusal-ne0.false).0, rw c.before.rules_of.ensures k.good.list, k.within),
+      (m.counted_moves-moves.ensures.size, omega (arith, short e.before e.if-refusal-ne0.false)),
     )
 
 result_requires : tie.Need-result-requires
 result_requires c κs = omega (arith, c.before.before.replay.ensures.small)
 
-returns_2 : tie.Need-returns-2
+returns_2 : tie.Need-returns
 returns_2 c =
     let r = c.before.before.before in
     let m = r.before.before.before.before.before.before.before in
     let e = m.before in
-    let o = e.before in
-    let k = ready o e.if1.false in
-    let long = (passed o e.if1.false).0 in
-    let is = rw (r.before.before.rules_of.ensures, m.counted_moves.ensures.moves, k.is) at r.replay.ensures.is in
+    let o = e in
+    let k = ready o e.refusal.false in
+    let long = (passed o e.if-refusal-ne0.false).0 in
+    let is = rw (r.before.before.rules_of.ensures, m.counted_moves-moves.ensures.moves, k.is) at r.replay.ensures.is in
     record {
-      answer = gives_done (refusal_is o) _ e.if1.false
+      answer = gives_done (refusal_is o) _ e.if-refusal-ne0.false
           (to_z-of_z w32 c.result.result (record { sfits = c.result.type_inv }) ∙ c.result.ensures ∙ ap pos is);
-      clears = front_cleared (start o).args.space.now r.replay.new.0 52632 few
+      clears = front_cleared (start o).args.space.now r.replay.new.cells 52632 few
           (r.replay.auto.0 ∙ front_size 52632 (start o).args.space.now few long) long;
     }
 
@@ -128,23 +128,23 @@ pub replay_in_spec : {M : Type 1} → statement M
 replay_in_spec =
     tie.close
     (tie.spec
-    (λ c κs. tt)  -- load-requires
-    (λ c κs. let l = c.before.load.ensures in (l.inside, l.size))  -- replace-requires
-    (λ c κs. c.before.before.before.before.load.ensures.few)  -- plan-refusal-requires
-    (λ c κs. tt)  -- or-else-requires
-    (λ c κs. tt)  -- refusal-requires
-    (λ c κs. tt)  -- or-else-requires-2
-    (λ c κs. tt)  -- refusal-requires-2
-    (λ c κs. tt)  -- or-else-requires-3
-    (λ c κs. tt)  -- refused-requires
-    (λ c. refl)  -- same-length
+    (λ c κs. tt)
+    (λ c κs. let l = c.before.load-table.ensures in (l.inside, l.size))
+    (λ c κs. c.before.before.before.before.load-table.ensures.few)
+    (λ c κs. tt)
+    (λ c κs. tt)
+    (λ c κs. tt)
+    (λ c κs. tt)
+    (λ c κs. tt)
+    (λ c κs. tt)
+    (λ c. refl)
     returns
     counted_moves_requires
-    (λ c. from_front 52632)  -- sub-replay
-    (λ c. from_front 52632)  -- part-replay-start
+    (λ c. from_front 52632)
+    (λ c. from_front 52632)
     part_replay_end
-    (λ c κs. held_inside (held c.before.before.before.before.before.before))  -- rules-of-requires
+    (λ c κs. held_inside (held c.before.before.before.before.before))
     replay_requires
     result_requires
-    (λ c. let r = c.before.before.before in length_front (start r.before.before.before.before.before.before.before.before.before).args.space.now r.replay.new.0 52632 r.replay.auto.0)  -- same-length-2
+    (λ c. let r = c.before.before.before in length_front (start r.before.before.before.before.before.before.before.before.before).args.space.now r.replay.new.cells 52632 r.replay.auto.0)
     returns_2)

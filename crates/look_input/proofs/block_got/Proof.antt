@@ -24,24 +24,24 @@ many : {n : ℕ} (bs : List ℕ) → n ≡ number_at 508 bs → 4 < n → 0 ≡ 
 unfolding image_size
 many bs e h = sym (ap (λ (b : Bool). cond b (512 * number_at 508 bs) 0) (lt-leb (number_at 508 bs) 4 (omega arith)))
 
-returns : tie.Need-returns
+returns : tie.Need-returns-then-count-lt512
 unfolding block_got
-returns c = let a = c.before.before.args in (sym (ap (λ (b : Bool). cond b 0 (image_size a.area.now)) (lt-ltb a.count 512 (omega (arith, c.if1.true)))), omega arith)
+returns c = let a = c.before.before.args in (sym (ap (λ (b : Bool). cond b 0 (image_size a.area.now)) (lt-ltb a.count 512 (omega (arith, c.if-count-lt512.true)))), omega arith)
 
-returns_2 : tie.Need-returns-2
+returns_2 : tie.Need-returns-then-blocks-le4
 returns_2 c =
     let a = c.before.before.before.before.args.area.now in
-    (few a c.before.number_at.ensures (omega (arith, c.if2.true)) ∙ whole _ a (omega (arith, c.before.before.if1.false)), omega (arith, c.if2.true))
+    (few a c.before.number_at-blocks.ensures (omega (arith, c.if-blocks-le4.true)) ∙ whole _ a (omega (arith, c.before.before.if-count-lt512.false)), omega (arith, c.if-blocks-le4.true))
 
-returns_3 : tie.Need-returns-3
+returns_3 : tie.Need-returns-else-blocks-le4
 returns_3 c =
     let a = c.before.before.before.before.args.area.now in
-    (many a c.before.number_at.ensures (omega (arith, c.if2.false)) ∙ whole _ a (omega (arith, c.before.before.if1.false)), omega arith)
+    (many a c.before.number_at-blocks.ensures (omega (arith, c.if-blocks-le4.false)) ∙ whole _ a (omega (arith, c.before.before.if-count-lt512.false)), omega arith)
 
 pub block_got_spec : {M : Type 1} → statement M
 block_got_spec = tie.close (tie.spec
     returns
-    (λ c κs. search rules)  -- number-at-requires
-    (λ c. search rules)  -- mul-result
+    (λ c κs. search rules)
+    (λ c. search rules)
     returns_2
     returns_3)

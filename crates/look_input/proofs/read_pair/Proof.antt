@@ -15,33 +15,33 @@ nothing : (p : List ℕ) → Reads End p
 unfolding Reads
 nothing p = tt
 
-returns : tie.Need-returns
+returns : tie.Need-returns-in_default
 returns c =
-    let l = c.before.before.before.read_plan in
-    record { left_read = reads_front 4098 l.result l.new.0 (search rules) l.ensures _; right_read = nothing _ }
+    let l = c.before.before.before.read_plan-left in
+    record { left_read = reads_front 4098 l.result l.new.part (search rules) l.ensures _; right_read = nothing _ }
 
-returns_2 : tie.Need-returns-2
+returns_2 : tie.Need-returns
 returns_2 c =
-    let l = c.before.before.before.before.before.before.before.before.read_plan in
-    let r = c.before.before.read_plan2 in
-    let xs = l.new.0 ++ drop 4098 c.before.before.before.before.before.before.before.before.before.before.before.args.input.now in
+    let l = c.before.before.before.before.before.before.before.read_plan-left in
+    let r = c.before.before.read_plan-right in
+    let xs = l.new.part ++ drop 4098 c.before.before.before.before.before.before.before.before.before.before.args.input.now in
     record {
-      left_read = reads_front 4098 l.result (take 4098 xs) (length-take-le 4098 xs (search rules)) (reads_front 4098 l.result l.new.0 (search rules) l.ensures _) _;
-      right_read = reads_next 4098 r.result r.new.0 (search rules) r.ensures xs _ (search rules);
+      left_read = reads_front 4098 l.result (take 4098 xs) (length-take-le 4098 xs (search rules)) (reads_front 4098 l.result l.new.part (search rules) l.ensures _) _;
+      right_read = reads_next 4098 r.result r.new.part (search rules) r.ensures xs _ (search rules);
     }
 
 pub read_pair_spec : {M : Type 1} → statement M
 read_pair_spec = tie.close (tie.spec
-    (λ c. search rules)  -- sub-read-plan
-    (λ c. search rules)  -- part-read-plan-start
-    (λ c. search rules)  -- part-read-plan-end
-    (λ c κs. search rules)  -- read-plan-requires
-    (λ c. search rules)  -- enum-told
-    (λ c. search rules)  -- same-length
+    (λ c. search rules)
+    (λ c. search rules)
+    (λ c. search rules)
+    (λ c κs. search rules)
+    (λ c. search rules)
+    (λ c. search rules)
     returns
-    (λ c. search rules)  -- sub-read-plan-2
-    (λ c. search rules)  -- part-read-plan-start-2
-    (λ c. search rules)  -- part-read-plan-end-2
-    (λ c κs. search rules)  -- read-plan-requires-2
-    (λ c. search rules)  -- same-length-2
+    (λ c. search rules)
+    (λ c. search rules)
+    (λ c. search rules)
+    (λ c κs. search rules)
+    (λ c. search rules)
     returns_2)

@@ -15,8 +15,8 @@ use Rattle.plan_growth.proofs.plan_growth.Statement.{statement}
 use Rattle.plan_growth.proofs.plan_growth.Tie as tie
 
 -- the table, and the chain of refusals
-module _ (o : tie.After-or-else) where
-  abbrev loaded : tie.After-load
+module _ (o : tie.After-or_else-refusal) where
+  abbrev loaded : tie.After-load-table
   loaded = o.before.before.before.before
 
   abbrev start : tie.Start
@@ -28,45 +28,45 @@ module _ (o : tie.After-or-else) where
   abbrev p : List ℕ
   p = start.args.plan.now
 
-  chain : o.or_else.result ≡ one_plan bs p
-  chain = plan_chain loaded.load.ensures p o.before.plan_refusal.ensures o.or_else.ensures
+  chain : o.or_else-refusal.result ≡ one_plan bs p
+  chain = plan_chain loaded.load-table.ensures p o.before.plan_refusal.ensures o.or_else-refusal.ensures
 
-  ready : o.or_else.result ≡ 0 →
-      let l = loaded.load.result in Ready (table_in bs) l.jobs (take l.end l.rules) l.norms p
-  ready = plan_ready loaded.load.ensures p o.before.plan_refusal.ensures o.or_else.ensures
+  ready : o.or_else-refusal.result ≡ 0 →
+      let l = loaded.load-table.result in Ready (table_in bs) l.jobs (take l.end l.rules) l.norms p
+  ready = plan_ready loaded.load-table.ensures p o.before.plan_refusal.ensures o.or_else-refusal.ensures
 
-returns : tie.Need-returns
+returns : tie.Need-returns-then-refusal-ne0
 returns c =
-    gives_refused (chain c.before.before) _ c.before.if1.true
+    gives_refused (chain c.before.before) _ c.before.if-refusal-ne0.true
     (to_z-of_z w32 c.refused.result (record { sfits = c.refused.type_inv }) ∙ c.refused.ensures)
 
-growth_requires : tie.Need-growth-requires
+growth_requires : tie.Need-growth-growth-requires
 growth_requires c κs =
     let e = c.before.before.before.before in
-    let k = ready e.before e.if1.false in
+    let k = ready e c.if-refusal-ne0.false in
     (rw c.rules_of.ensures k.good.list, k.within)
 
-returns_2 : tie.Need-returns-2
+returns_2 : tie.Need-returns
 returns_2 c =
     let g = c.before in
     let r = g.before in
     let e = r.before.before.before.before in
-    let k = ready e.before e.if1.false in
-    gives_done (chain e.before) _ e.if1.false
+    let k = ready e c.if-refusal-ne0.false in
+    gives_done (chain e) _ c.if-refusal-ne0.false
     (to_z-of_z w32 c.result.result (record { sfits = c.result.type_inv }) ∙ c.result.ensures
-    ∙ ap pos (rw (r.rules_of.ensures, k.is) at g.growth.ensures))
+    ∙ ap pos (rw (r.rules_of.ensures, k.is) at g.growth-growth.ensures))
 
 pub plan_growth_spec : {M : Type 1} → statement M
 plan_growth_spec =
     tie.close
     (tie.spec
-    (λ c κs. search rules)  -- load-requires
-    (λ c κs. search rules)  -- plan-refusal-requires
-    (λ c κs. search rules)  -- or-else-requires
-    (λ c κs. search rules)  -- refused-requires
+    (λ c κs. search rules)
+    (λ c κs. search rules)
+    (λ c κs. search rules)
+    (λ c κs. search rules)
     returns
-    (λ c κs. search rules)  -- rules-of-requires
+    (λ c κs. search rules)
     growth_requires
-    (λ c. search rules)  -- cast-result
-    (λ c κs. search rules)  -- result-requires
+    (λ c. search rules)
+    (λ c κs. search rules)
     returns_2)

@@ -24,33 +24,33 @@ module _ (s : tie.Start) where
   log = take s.args.count s.args.log.now
 
   moves : length log ≡ s.args.count
-  moves = length-take-le s.args.count s.args.log.now (omega (arith, s.pre.1.0, s.pre.1.1))
+  moves = length-take-le s.args.count s.args.log.now (omega (arith, s.requires.1.0, s.requires.1.1))
 
   over_table : over t s.args.plan.now ≡ true
   unfolding over table_of
-  over_table = s.pre.0.2
+  over_table = s.requires.0.2
 
-returns : tie.Need-returns
+returns : tie.Need-returns-then-count-eq0
 returns c =
     let s = c.before.before.before.before.before in
-    empty_whole (t s) s.args.plan.now (log s) c.before.if1.true (moves s ∙ c.if2.true)
+    empty_whole (t s) s.args.plan.now (log s) c.before.if-plan-eq0.true (moves s ∙ c.if-count-eq0.true)
 
-returns_2 : tie.Need-returns-2
+returns_2 : tie.Need-returns-then-plan-eq0
 returns_2 c =
     let s = c.before.before.before.before.before in
-    let n : s.args.count ≡ 0 → ⊥ = c.if2.false in
-    empty_stops (t s) s.args.plan.now (log s) c.before.if1.true (pos_of_ne-zero (λ z. n (sym (moves s) ∙ z)))
+    let n : s.args.count ≡ 0 → ⊥ = c.if-count-eq0.false in
+    empty_stops (t s) s.args.plan.now (log s) c.before.if-plan-eq0.true (pos_of_ne-zero (λ z. n (sym (moves s) ∙ z)))
 
 follow_requires : tie.Need-follow-requires
 follow_requires c κs =
-    let f = c.before.before.before in
-    let s = f.before.before.before.before.before.before in
-    ((f.fill.ensures.size ∙ s.requires.0.0, below_more s.args.jobs 24 s.args.plan.now s.requires.0.1.jobs s.requires.0.2), (pos_of_ne-zero f.before.before.if1.false, s.requires.1.1))
+    let f = c in
+    let s = c in
+    ((f.fill.ensures.size ∙ s.requires.0.0, below_more s.args.jobs 24 s.args.plan.now s.requires.0.1.jobs s.requires.0.2), (pos_of_ne-zero f.if-plan-eq0.false, s.requires.1.1))
 
 -- what the plan reaches
 module _ (c : tie.After-follow) where
   abbrev filled : tie.After-fill
-  filled = c.before.before.before.before
+  filled = c.before.before.before
 
   abbrev start : tie.Start
   start = filled.before.before.before.before.before.before
@@ -66,9 +66,9 @@ outcome_requires : tie.Need-outcome-requires
 outcome_requires c κs =
     let s = start c in
     let r = c.follow.result in
-    (omega (arith, least_inside (t s) s.args.plan.now (log s) r.low r.high r.least (reached c), moves s), s.pre.1.1)
+    (omega (arith, least_inside (t s) s.args.plan.now (log s) r.low r.high r.least (reached c), moves s), s.requires.1.1)
 
-returns_3 : tie.Need-returns-3
+returns_3 : tie.Need-returns
 returns_3 c =
     let f = c.before in
     let s = start f in
@@ -81,8 +81,8 @@ replay_spec =
     (tie.spec
     returns
     returns_2
-    (λ c κs. search rules)  -- fill-requires
+    (λ c κs. search rules)
     follow_requires
     outcome_requires
-    (λ c. search rules)  -- same-length
+    (λ c. search rules)
     returns_3)

@@ -5,14 +5,14 @@ use Rattle.workspace.proofs.UsablePart.{none_usable, some_usable}
 use Rattle.workspace.proofs.refusal.Statement.{statement}
 use Rattle.workspace.proofs.refusal.Tie as tie
 
-returns : tie.Need-returns
-returns c = sym (none_usable _ (sym c.before.usable.ensures ∙ c.if1.true))
+returns : tie.Need-returns-then-usable-eq0
+returns c = sym (none_usable _ (sym c.before.usable.ensures ∙ c.if-usable-eq0.true))
 
-returns_2 : tie.Need-returns-2
-returns_2 c = sym (some_usable _ (λ z. c.if1.false (c.before.usable.ensures ∙ z)))
+returns_2 : tie.Need-returns
+returns_2 c = sym (some_usable _ (λ z. c.if-usable-eq0.false (c.before.usable.ensures ∙ z)))
 
 pub refusal_spec : {M : Type 1} → statement M
 refusal_spec = tie.close (tie.spec
-    (λ c κs. search rules)  -- usable-requires
+    (λ c κs. search rules)
     returns
     returns_2)
