@@ -16,46 +16,46 @@ use Rattle.lowering.proofs.ShortRows.{row_put, row_kept, made_front}
 use Rattle.choices.proofs.keep_row.Statement.{statement}
 use Rattle.choices.proofs.keep_row.Tie as tie
 
-rule_job_requires : tie.Need-rule-job-requires
+rule_job_requires : tie.Need-rule_job-job-requires
 rule_job_requires c κs = c.before.before.requires.1.0.place
 
-job_below : (c : tie.After-rule-job) → c.rule_job.result < 24
+job_below : (c : tie.After-rule_job-job) → c.rule_job-job.result < 24
 job_below c =
     let s = c.before.before.before in
-    omega (arith, c.rule_job.ensures.is, (good_rule s.args.jobs s.args.rules.now s.requires.0.list s.args.rule s.requires.1.0.place).job, s.requires.0.list.jobs)
+    omega (arith, c.rule_job-job.ensures.is, (good_rule s.args.jobs s.args.rules.now s.requires.0.list s.args.rule s.requires.1.0.place).job, s.requires.0.list.jobs)
 
 -- the norm that was looked up
-norm_is : (c : tie.After-norm-of) →
-    c.norm_of.result ≡ get_or c.before.before.before.before.args.norms.now (rule_at c.before.before.before.before.args.rules.now c.before.before.before.before.args.rule).job 0
+norm_is : (c : tie.After-norm_of-norm) →
+    c.norm_of-norm.result ≡ get_or c.before.before.before.before.args.norms.now (rule_at c.before.before.before.before.args.rules.now c.before.before.before.before.args.rule).job 0
 norm_is c =
     let s = c.before.before.before.before in
-    c.norm_of.ensures.is ∙ ap (λ (x : ℕ). get_or s.args.norms.now x 0) c.before.rule_job.ensures.is
+    c.norm_of-norm.ensures.is ∙ ap (λ (x : ℕ). get_or s.args.norms.now x 0) c.before.rule_job-job.ensures.is
 
-norm_of_requires : tie.Need-norm-of-requires
+norm_of_requires : tie.Need-norm_of-norm-requires
 norm_of_requires c κs = job_below c
 
-returns : tie.Need-returns
-returns c = record { row = λ l. absurd (omega (arith, norm_is c.before, c.if1.true)); others = λ j d l. refl }
+returns : tie.Need-returns-then-norm-gt85
+returns c = record { row = λ l. absurd (omega (arith, norm_is c.before, c.if-norm-gt85.true)); others = λ j d l. refl }
 
-rule_move_requires : tie.Need-rule-move-requires
+rule_move_requires : tie.Need-rule_move-requires
 rule_move_requires c κs = c.before.before.before.before.before.before.requires.1.0.place
 
-cast_put_number : tie.Need-overflow-cast-put-number
+cast_put_number : tie.Need-overflow_cast-rule_move
 cast_put_number c = omega (arith, c.rule_move.ensures.small)
 
-mul_put_number : tie.Need-overflow-mul-put-number
+mul_put_number : tie.Need-overflow_mul-job
 mul_put_number c = omega (arith, job_below c.before.before.before.before)
 
-put_number_requires : tie.Need-put-number-requires
+put_number_requires : tie.Need-put_number-requires
 put_number_requires c κs =
     let n = c.before.before.before.before in
     omega (arith, job_below n.before, n.before.before.before.before.requires.1.1.size)
 
-same_length : tie.Need-same-length
+same_length : tie.Need-shape_of-rows-then-norm-eq1
 same_length c = search rules
 
 -- a job of norm 1: its run is one move
-returns_2 : tie.Need-returns-2
+returns_2 : tie.Need-returns-then-norm-eq1
 unfolding low_first
 returns_2 c =
     let w = c.before.before.put_number in
@@ -68,8 +68,8 @@ returns_2 c =
     let ns = a.norms.now in
     let rows = a.rows.now in
     let j = (rule_at rs a.rule).job in
-    let is = n.before.rule_job.ensures.is in
-    let one : get_or ns j 0 ≡ 1 = omega (arith, norm_is n, t.if2.true) in
+    let is = n.before.rule_job-job.ensures.is in
+    let one : get_or ns j 0 ≡ 1 = omega (arith, norm_is n, t.if-norm-eq1.true) in
     let alone = only_move a.jobs rs ns s.requires.0 a.rule s.requires.1.0 one in
     let put_at = w.ensures ∙ ap₂ (λ (x v : ℕ). put (170 * x) (low_first v) rows) is m.rule_move.ensures.is in
     let small = subst (λ (x : ℕ). x < 24) is (job_below n.before) in
@@ -80,19 +80,19 @@ returns_2 c =
       others = λ i other l. ap (λ (v : List ℕ). short_row ns v i) put_at ∙ row_kept ns rows j new size small (omega arith) i other l;
     }
 
-slice_aggregate_make_run : tie.Need-slice-aggregate-make-run
+slice_aggregate_make_run : tie.Need-slice_bounds-make_run-end
 slice_aggregate_make_run c = search rules
 
-make_run_requires : tie.Need-make-run-requires
+make_run_requires : tie.Need-make_run-n-requires
 make_run_requires c κs =
     let e = c.before.before.before in
-    let s = e.before.before.before.before.before in
-    (s.requires.0, (s.requires.1.0, (s.requires.1.1, omega (arith, norm_is e.before, e.if1.false))))
+    let s = e.before.before.before.before in
+    (s.requires.0, (s.requires.1.0, (s.requires.1.1, omega (arith, norm_is e, c.if-norm-gt85.false))))
 
 -- the run that was made
-module _ (c : tie.After-make-run) where
-  abbrev tested : tie.Else1
-  tested = c.before.before.before.before
+module _ (c : tie.After-make_run-n) where
+  abbrev tested : tie.Else-norm-gt85
+  tested = c.before.before.before
 
   abbrev start : tie.Start
   start = tested.before.before.before.before.before
@@ -107,56 +107,56 @@ module _ (c : tie.After-make-run) where
   rule = start.args.rule
 
   abbrev job : ℕ
-  job = tested.before.before.rule_job.result
+  job = tested.before.before.rule_job-job.result
 
   abbrev new : List ℕ
-  new = take (c.make_run.result - 0) c.make_run.new.1.1.1.1.1.1.0
+  new = take (c.make_run-n.result - 0) c.make_run-n.new.made
 
   new_is : new ≡ all_low_first (run_by start.args.jobs rs rule)
-  new_is = made_front c.make_run.ensures
+  new_is = made_front c.make_run-n.ensures
 
   new_length : length new ≡ 2 * get_or ns (rule_at rs rule).job 0
   new_length =
       ap length new_is ∙ all_length (run_by start.args.jobs rs rule)
-      ∙ ap (λ (k : ℕ). 2 * k) (run_by_length start.args.jobs rs ns start.pre.0 rule start.pre.1.0.place ∙ sym start.pre.1.0.falls)
+      ∙ ap (λ (k : ℕ). 2 * k) (run_by_length start.args.jobs rs ns start.requires.0 rule start.requires.1.0.place ∙ sym start.requires.1.0.falls)
 
   new_short : length new ≤ 170
-  new_short = omega (arith, new_length, norm_is tested.before, tested.if1.left)
+  new_short = omega (arith, new_length, norm_is tested.before, tested.if-norm-gt85.false)
 
-  result_is : c.make_run.result ≡ 2 * get_or ns (rule_at rs rule).job 0
-  result_is = omega (arith, c.make_run.ensures.next, ap length new_is, new_length)
+  result_is : c.make_run-n.result ≡ 2 * get_or ns (rule_at rs rule).job 0
+  result_is = omega (arith, c.make_run-n.ensures.next, ap length new_is, new_length)
 
   is_job : job ≡ (rule_at rs rule).job
-  is_job = tested.before.before.rule_job.ensures.is
+  is_job = tested.before.before.rule_job-job.ensures.is
 
   below : job < 24
   below = job_below tested.before.before
 
-mul_put : tie.Need-overflow-mul-put
+mul_put : tie.Need-overflow_mul-job-2
 mul_put c = omega (arith, below c.before.before)
 
-sub_put : tie.Need-overflow-sub-put
+sub_put : tie.Need-slice_bounds-put-count
 sub_put c = search rules
 
-part_put_start : tie.Need-slice-bounds-put-start
+part_put_start : tie.Need-slice_bounds-put-start
 part_put_start c = search rules
 
-part_put_end : tie.Need-slice-bounds-put-end
+part_put_end : tie.Need-slice_bounds-put-end
 part_put_end c =
-    let d = c.before.before.before in
-    omega (arith, result_is d, norm_is (tested d).before, (tested d).if1.false, d.make_run.auto.1.1.1.1.1.1.0)
+    let d = c.before.before in
+    omega (arith, result_is d, norm_is (tested d).before, (tested d).if-norm-gt85.false, d.make_run-n.auto.made)
 
 put_requires : tie.Need-put-requires
 put_requires c κs =
-    let d = c.before.before.before.before in
+    let d = c.before.before.before in
     omega (arith, new_short d, below d, (start d).requires.1.1.size)
 
-same_length_2 : tie.Need-same-length-2
+same_length_2 : tie.Need-shape_of-rows
 same_length_2 c = search rules
 
-returns_3 : tie.Need-returns-3
+returns_3 : tie.Need-returns
 returns_3 c =
-    let d = c.before.before.before.before.before.before.before in
+    let d = c.before.before.before.before.before.before in
     let rows = (start d).args.rows.now in
     let put_at = c.before.before.put.ensures.output ∙ ap (λ (x : ℕ). put (170 * x) (new d) rows) (is_job d) in
     let small = subst (λ (x : ℕ). x < 24) (is_job d) (below d) in

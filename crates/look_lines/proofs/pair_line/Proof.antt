@@ -11,17 +11,17 @@ use Rattle.look_lines.proofs.Parts.{verdict_refused, verdict_same, verdict_apart
 use Rattle.look_lines.proofs.pair_line.Statement.{statement}
 use Rattle.look_lines.proofs.pair_line.Tie as tie
 
-refusal_is : (c : tie.After-refusal-in) → c.refusal_in.result ≡ refusal_in c.before.before.before.before.before.before.before.args.answer
+refusal_is : (c : tie.After-refusal_in-refusal) → c.refusal_in-refusal.result ≡ refusal_in c.before.before.before.before.before.before.before.args.answer
 refusal_is c =
     let s = c.before.before.before.before.before.before.before in
-    c.refusal_in.ensures ∙ ap refusal_in (to_z-of_z w32 s.args.answer s.ranges.answer)
+    c.refusal_in-refusal.ensures ∙ ap refusal_in (to_z-of_z w32 s.args.answer s.ranges.answer)
 
-result_is : (c : tie.After-result-in) → c.result_in.result ≡ result_in c.before.before.before.before.before.before.before.before.before.args.answer
+result_is : (c : tie.After-result_in) → c.result_in.result ≡ result_in c.before.before.before.before.before.before.before.before.before.args.answer
 result_is c =
     let s = c.before.before.before.before.before.before.before.before.before in
     c.result_in.ensures ∙ ap result_in (to_z-of_z w32 s.args.answer s.ranges.answer)
 
-returns : tie.Need-returns
+returns : tie.Need-returns-then-refusal-ne0
 unfolding pair_line
 returns c =
     let second = c.before.before.before.before.before.before.before in
@@ -29,35 +29,35 @@ returns c =
     let first = t.before.before.before.before in
     let z = first.before.before.before.before.args.answer in
     record {
-      put = put_line first.put_field.ensures.1
-          (put_as (verdict_refused t.before.refusal_in.result (result_in z) t.if1.true ∙ ap (λ (n : ℕ). verdict n (result_in z)) (refusal_is t.before))
-          (put_both (search rules) second.put_field2.ensures.1 c.before.before.put.ensures));
+      put = put_line first.put_field-first.ensures.1
+          (put_as (verdict_refused t.before.refusal_in-refusal.result (result_in z) t.if-refusal-ne0.true ∙ ap (λ (n : ℕ). verdict n (result_in z)) (refusal_is t.before.before.before))
+          (put_both (search rules) second.put_field-next.ensures.1 c.before.before.put.ensures));
       within = search rules;
     }
 
-returns_2 : tie.Need-returns-2
+returns_2 : tie.Need-returns-then-result_in-ne0
 unfolding pair_line
 returns_2 c =
     let t = c.before.before.before.before.before in
     let o = t.before.before in
     let first = o.before.before.before.before in
     record {
-      put = put_line first.put_field.ensures.1
-          (put_as (verdict_same o.before.refusal_in.result t.before.result_in.result o.if1.false t.if2.true ∙ ap₂ verdict (refusal_is o.before) (result_is t.before))
-          c.before.before.put2.ensures);
+      put = put_line first.put_field-first.ensures.1
+          (put_as (verdict_same o.before.refusal_in-refusal.result t.before.result_in.result o.if-refusal-ne0.false t.if-result_in-ne0.true ∙ ap₂ verdict (refusal_is o.before.before) (result_is t.before.before))
+          c.before.before.put-then-result_in-ne0.ensures);
       within = search rules;
     }
 
-returns_3 : tie.Need-returns-3
+returns_3 : tie.Need-returns
 unfolding pair_line
 returns_3 c =
     let t = c.before.before.before.before.before in
     let o = t.before.before in
     let first = o.before.before.before.before in
     record {
-      put = put_line first.put_field.ensures.1
-          (put_as (verdict_apart o.before.refusal_in.result t.before.result_in.result o.if1.false t.if2.false ∙ ap₂ verdict (refusal_is o.before) (result_is t.before))
-          c.before.before.put3.ensures);
+      put = put_line first.put_field-first.ensures.1
+          (put_as (verdict_apart o.before.refusal_in-refusal.result t.before.result_in.result o.if-refusal-ne0.false t.if-result_in-ne0.false ∙ ap₂ verdict (refusal_is o.before.before) (result_is t.before.before))
+          c.before.before.put-2.ensures);
       within = search rules;
     }
 
@@ -65,21 +65,16 @@ pub pair_line_spec : {M : Type 1} → statement M
 pair_line_spec =
     tie.close
     (tie.spec
-    (λ c. search rules)  -- slice-aggregate-put-field
-    (λ c κs. search rules)  -- put-field-requires
-    (λ c κs. search rules)  -- refusal-in-requires
-    (λ c. search rules)  -- slice-aggregate-put-field-2
-    (λ c κs. search rules)  -- put-field-requires-2
-    (λ c. search rules)  -- slice-aggregate-put
-    (λ c κs. search rules)  -- put-requires
-    (λ c. search rules)  -- same-length
+    (λ c κs. search rules)
+    (λ c κs. search rules)
+    (λ c κs. search rules)
+    (λ c κs. search rules)
+    (λ c. search rules)
     returns
-    (λ c κs. search rules)  -- result-in-requires
-    (λ c. search rules)  -- slice-aggregate-put-2
-    (λ c κs. search rules)  -- put-requires-2
-    (λ c. search rules)  -- same-length-2
+    (λ c κs. search rules)
+    (λ c κs. search rules)
+    (λ c. search rules)
     returns_2
-    (λ c. search rules)  -- slice-aggregate-put-3
-    (λ c κs. search rules)  -- put-requires-3
-    (λ c. search rules)  -- same-length-3
+    (λ c κs. search rules)
+    (λ c. search rules)
     returns_3)

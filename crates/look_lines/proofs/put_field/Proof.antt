@@ -14,37 +14,33 @@ use Rattle.look_lines.proofs.put_field.Statement.{statement}
 use Rattle.look_lines.proofs.put_field.Tie as tie
 
 -- what is put behind the word
-digits_put : (c : tie.After-decimal) → take (c.decimal.result - 0) c.decimal.new.1.0 ≡ number c.before.before.before.before.args.value
+digits_put : (c : tie.After-decimal-size) → take (c.decimal-size.result - 0) c.decimal-size.new.out ≡ number c.args.value
 digits_put c =
-    let d = c.decimal in
-    ap (λ (k : ℕ). take k d.new.1.0) (sub-zero d.result) ∙ d.ensures.1.1
-    ∙ number_is c.before.before.before.before.args.value d.result d.ensures.1.0 c.before.before.before.before.ranges.value.fits
+    let d = c.decimal-size in
+    ap (λ (k : ℕ). take k d.new.out) (sub-zero d.result) ∙ d.ensures.1.1.0
+    ∙ number_is c.args.value d.result d.ensures.1.0 c.ranges.value.fits
 
-put_requires_2 : tie.Need-put-requires-2
+put_requires_2 : tie.Need-put-requires
 put_requires_2 c κs =
-    let p = c.before.before.before.before.before in
-    let s = p.before.before.before.before.before.before in
-    omega (arith, ap length (digits_put p.before.before), number_few s.args.value s.ranges.value.fits, p.put.ensures.next, p.put.auto.0, s.requires)
+    omega (arith, ap length (digits_put c.before.before.before.before.before.before), number_few c.args.value c.ranges.value.fits, c.put-next.ensures.next, c.put-next.auto.area, c.requires)
 
 returns : tie.Need-returns
 unfolding field
-returns c =
-    let p = c.before.before.before.before.before.before.before.before in
-    let s = p.before.before.before.before.before.before in (
-      omega (arith, p.put.ensures.next, c.before.before.put2.ensures.next, ap length (digits_put p.before.before), number_few s.args.value s.ranges.value.fits),
-      put_as (ap (λ (l : List ℕ). s.args.word.now ++ l) (digits_put p.before.before))
-          (put_both (omega (arith, s.requires)) p.put.ensures c.before.before.put2.ensures),
+returns c = (
+      omega (arith, c.put-next.ensures.next, c.put.ensures.next, ap length (digits_put c.before.before.before.before.before.before.before.before.before), number_few c.args.value c.ranges.value.fits),
+      put_as (ap (λ (l : List ℕ). c.args.word.now ++ l) (digits_put c.before.before.before.before.before.before.before.before.before))
+          (put_both (omega (arith, c.requires)) c.put-next.ensures c.put.ensures),
     )
 
 pub put_field_spec : {M : Type 1} → statement M
 put_field_spec =
     tie.close
     (tie.spec
-    (λ c κs. search rules)  -- decimal-requires
-    (λ c κs. search rules)  -- put-requires
-    (λ c. search rules)  -- sub-put
-    (λ c. search rules)  -- part-put-start
-    (λ c. search rules)  -- part-put-end
+    (λ c κs. search rules)
+    (λ c κs. search rules)
+    (λ c. search rules)
+    (λ c. search rules)
+    (λ c. search rules)
     put_requires_2
-    (λ c. search rules)  -- same-length
+    (λ c. search rules)
     returns)

@@ -16,7 +16,6 @@ returns c =
 pub put_job_spec : {M : Type 1} → statement M
 put_job_spec =
     tie.close (tie.spec
-    (λ c. search rules)  -- slice-aggregate-put-field
-    (λ c κs. search rules)  -- put-field-requires
-    (λ c. search rules)  -- same-length
+    (λ c κs. search rules)
+    (λ c. search rules)
     returns)

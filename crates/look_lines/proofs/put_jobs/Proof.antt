@@ -12,30 +12,30 @@ use Rattle.look_lines.proofs.Parts.{next_job}
 use Rattle.look_lines.proofs.put_jobs.Statement.{statement}
 use Rattle.look_lines.proofs.put_jobs.Tie as tie
 
-abbrev invariant_loop : tie.invariant-loop
+abbrev invariant_loop : tie.invariant-loop-i
 invariant_loop line₀ at jobs next₀ i₀ line next i =
     (i ≤ length jobs) × (next ≤ at + 4 * i) × (length line ≡ length line₀) × IsPut at (jobs_text (take i jobs)) line₀ next line
 
-abbrev decreases_loop : tie.decreases-loop
+abbrev decreases_loop : tie.decreases-loop-i
 decreases_loop line₀ at jobs next₀ i₀ line next i = length jobs - i
 
-loop_holds : tie.Need-loop-init invariant_loop decreases_loop
+loop_holds : tie.Need-loop-i-init invariant_loop decreases_loop
 unfolding jobs_text
 loop_holds c = (search rules, search rules, refl, put_nothing _ _)
 
-loop_again : tie.Need-loop-preserved invariant_loop decreases_loop
+loop_again : tie.Need-loop-i-preserved invariant_loop decreases_loop
 loop_again c =
-    let p = c.before.before.put_job in
-    let l = c.before.before.before.before.before.before.loop in
+    let p = c.before.before.put_job-next in
+    let l = c.before.before.before.before.before.before.loop-i in
     let s = c.before.before.before.before.before.before.before.before.before in
     (search rules, search rules, search rules, put_as (next_job s.args.jobs.now l.i (search rules)) (put_both (search rules) l.invariant.3 p.ensures.1))
 
-same_length : tie.Need-same-length invariant_loop decreases_loop
-same_length c = c.before.loop.invariant.2
+same_length : tie.Need-shape_of-line invariant_loop decreases_loop
+same_length c = c.before.loop-i.invariant.2
 
 returns : tie.Need-returns invariant_loop decreases_loop
 returns c =
-    let l = c.before.loop in
+    let l = c.before.loop-i in
     let s = c.before.before.before.before in
     (omega arith, put_as (ap jobs_text (take_all l.i s.args.jobs.now (omega arith))) l.invariant.3)
 
@@ -46,10 +46,10 @@ put_jobs_spec =
     invariant_loop
     decreases_loop
     loop_holds
-    (λ c. search rules)  -- shared-slice-read-put-job
-    (λ c κs. search rules)  -- put-job-requires
-    (λ c. search rules)  -- add-i
-    (λ c. search rules)  -- loop-less
+    (λ c. search rules)
+    (λ c κs. search rules)
+    (λ c. search rules)
+    (λ c. search rules)
     loop_again
     same_length
     returns)

@@ -8,15 +8,13 @@ use Rattle.look_lines.proofs.refused_line.Tie as tie
 returns : tie.Need-returns
 unfolding refused_line
 returns c =
-    record { put = put_line c.before.before.before.before.before.before.before.put_field.ensures.1 c.before.before.put.ensures; within = search rules }
+    record { put = put_line c.before.before.before.before.before.before.before.put_field-next.ensures.1 c.before.before.put.ensures; within = search rules }
 
 pub refused_line_spec : {M : Type 1} → statement M
 refused_line_spec =
     tie.close
     (tie.spec
-    (λ c. search rules)  -- slice-aggregate-put-field
-    (λ c κs. search rules)  -- put-field-requires
-    (λ c. search rules)  -- slice-aggregate-put
-    (λ c κs. search rules)  -- put-requires
-    (λ c. search rules)  -- same-length
+    (λ c κs. search rules)
+    (λ c κs. search rules)
+    (λ c. search rules)
     returns)

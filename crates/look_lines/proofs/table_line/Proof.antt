@@ -10,17 +10,14 @@ unfolding table_line
 returns c =
     let second = c.before.before.before.before.before.before.before in
     let first = second.before.before.before.before.before in
-    record { put = put_line (put_line first.put_field.ensures.1 second.put_field2.ensures.1) c.before.before.put.ensures; within = search rules }
+    record { put = put_line (put_line first.put_field-first.ensures.1 second.put_field-next.ensures.1) c.before.before.put.ensures; within = search rules }
 
 pub table_line_spec : {M : Type 1} → statement M
 table_line_spec =
     tie.close
     (tie.spec
-    (λ c. search rules)  -- slice-aggregate-put-field
-    (λ c κs. search rules)  -- put-field-requires
-    (λ c. search rules)  -- slice-aggregate-put-field-2
-    (λ c κs. search rules)  -- put-field-requires-2
-    (λ c. search rules)  -- slice-aggregate-put
-    (λ c κs. search rules)  -- put-requires
-    (λ c. search rules)  -- same-length
+    (λ c κs. search rules)
+    (λ c κs. search rules)
+    (λ c κs. search rules)
+    (λ c. search rules)
     returns)

@@ -14,14 +14,14 @@ use Rattle.refining.proofs.Primes.{old_alone, new_alone, decides_not, prime_foun
 use Rattle.refining.proofs.new_prime.Statement.{statement}
 use Rattle.refining.proofs.new_prime.Tie as tie
 
-abbrev invariant_loop : tie.invariant-loop
+abbrev invariant_loop : tie.invariant-loop-j
 invariant_loop facts old new area jobs j₀ j =
     (j ≤ jobs) × ((k : ℕ) → k < j → Alone (row new (new_half area)) k → Alone (row old (old_half area)) k)
 
-abbrev decreases_loop : tie.decreases-loop
+abbrev decreases_loop : tie.decreases-loop-j
 decreases_loop facts old new area jobs j₀ j = jobs - j
 
-loop_holds : tie.Need-loop-init invariant_loop decreases_loop
+loop_holds : tie.Need-loop-j-init invariant_loop decreases_loop
 loop_holds c = (omega arith, λ k h. absurd (omega arith))
 
 alone_requires : tie.Need-alone-requires invariant_loop decreases_loop
@@ -29,11 +29,11 @@ alone_requires c κs =
     let s = c.before.before.before.before.before in
     let a = s.args in
     record {
-      is_job = omega (arith, s.requires.0, c.before.before.before.job_count.ensures, c.before.loop_test.true);
+      is_job = omega (arith, s.requires.0, c.before.before.before.job_count-jobs.ensures, c.before.loop-j-test.true);
       size = subst (λ l. length l ≡ 12288) (sym (new_lent a.area.now s.requires.1)) (new_size a.area.now s.requires.1);
     }
 
-alone_requires_2 : tie.Need-alone-requires-2 invariant_loop decreases_loop
+alone_requires_2 : tie.Need-alone-requires-then-alone invariant_loop decreases_loop
 alone_requires_2 c κs =
     let s = c.before.before.before.before.before.before.before.before in
     let a = s.args in
@@ -41,58 +41,58 @@ alone_requires_2 c κs =
       is_job = omega (
         arith,
         s.requires.0,
-        c.before.before.before.before.before.before.job_count.ensures,
-        c.before.before.before.before.loop_test.true,
+        c.before.before.before.before.before.before.job_count-jobs.ensures,
+        c.before.before.before.before.loop-j-test.true,
       );
       size = subst (λ l. length l ≡ 12288) (sym (old_lent a.area.now)) (old_size a.area.now s.requires.1);
     }
 
-loop_again : tie.Need-loop-preserved invariant_loop decreases_loop
+loop_again : tie.Need-loop-j-preserved-then-alone-2 invariant_loop decreases_loop
 loop_again c =
     let a = c.before.before.before.before.before.before.before.before.before.before.args in
-    let v = c.before.before.before.before.before.before.before.loop in
-    let r = c.before.alone2 in (
-      omega (arith, c.before.before.before.before.before.before.loop_test.true),
-      below_more _ _ v.invariant.1 (λ _. (old_alone a.old.now a.area.now v.j r.result r.ensures).yes c.if2.true),
+    let v = c.before.before.before.before.before.before.before.loop-j in
+    let r = c.before.alone-then-alone in (
+      omega (arith, c.before.before.before.before.before.before.loop-j-test.true),
+      below_more _ _ v.invariant.1 (λ _. (old_alone a.old.now a.area.now v.j r.result r.ensures).yes c.if-alone-2.true),
     )
 
-returns : tie.Need-returns invariant_loop decreases_loop
+returns : tie.Need-returns-then-alone invariant_loop decreases_loop
 returns c =
     let s = c.before.before.before.before.before.before.before.before.before.before in
     let a = s.args in
-    let v = c.before.before.before.before.before.before.before.loop in
+    let v = c.before.before.before.before.before.before.before.loop-j in
     let d = row a.old.now (old_half a.area.now) in
     let e = row a.new.now (new_half a.area.now) in
     let r = c.before.before.before.before.alone in
-    let r₂ = c.before.alone2 in
+    let r₂ = c.before.alone-then-alone in
     prime_found (jobs_in a.facts.now) d e v.j
     (omega (
       arith,
-      c.before.before.before.before.before.before.before.before.job_count.ensures,
-      c.before.before.before.before.before.before.loop_test.true,
+      c.before.before.before.before.before.before.before.before.job_count-jobs.ensures,
+      c.before.before.before.before.before.before.loop-j-test.true,
     ))
-    ((new_alone a.new.now a.area.now s.requires.1 v.j r.result r.ensures).yes c.before.before.before.if1.true)
-    (decides_not (Alone d v.j) r₂.result (old_alone a.old.now a.area.now v.j r₂.result r₂.ensures) c.if2.false)
+    ((new_alone a.new.now a.area.now s.requires.1 v.j r.result r.ensures).yes c.before.before.before.if-alone.true)
+    (decides_not (Alone d v.j) r₂.result (old_alone a.old.now a.area.now v.j r₂.result r₂.ensures) c.if-alone-2.false)
 
-loop_again_2 : tie.Need-loop-preserved-2 invariant_loop decreases_loop
+loop_again_2 : tie.Need-loop-j-preserved invariant_loop decreases_loop
 loop_again_2 c =
     let s = c.before.before.before.before.before.before.before in
     let a = s.args in
-    let v = c.before.before.before.before.loop in
+    let v = c.before.before.before.before.loop-j in
     let r = c.before.alone in (
-      omega (arith, c.before.before.before.loop_test.true),
+      omega (arith, c.before.before.before.loop-j-test.true),
       below_more _ _ v.invariant.1
           (λ p. absurd
           (decides_not (Alone (row a.new.now (new_half a.area.now)) v.j) r.result
-          (new_alone a.new.now a.area.now s.requires.1 v.j r.result r.ensures) c.if1.false p)),
+          (new_alone a.new.now a.area.now s.requires.1 v.j r.result r.ensures) c.if-alone.false p)),
     )
 
-returns_2 : tie.Need-returns-2 invariant_loop decreases_loop
+returns_2 : tie.Need-returns invariant_loop decreases_loop
 returns_2 c =
     let a = c.before.before.before.before.args in
-    let v = c.before.loop in
+    let v = c.before.loop-j in
     prime_none (jobs_in a.facts.now) (row a.old.now (old_half a.area.now)) (row a.new.now (new_half a.area.now))
-    (λ k h. v.invariant.1 k (omega (arith, c.before.before.job_count.ensures, c.loop_test.false)))
+    (λ k h. v.invariant.1 k (omega (arith, c.before.before.job_count-jobs.ensures, c.loop-j-test.false)))
 
 pub new_prime_spec : {M : Type 1} → statement M
 new_prime_spec =
@@ -100,21 +100,21 @@ new_prime_spec =
     (tie.spec
     invariant_loop
     decreases_loop
-    (λ c κs. search rules)  -- job-count-requires
+    (λ c κs. search rules)
     loop_holds
-    (λ c. search rules)  -- sub-alone
-    (λ c. search rules)  -- part-alone-start
-    (λ c. search rules)  -- part-alone-end
+    (λ c. search rules)
+    (λ c. search rules)
+    (λ c. search rules)
     alone_requires
-    (λ c. search rules)  -- sub-alone-2
-    (λ c. search rules)  -- part-alone-start-2
-    (λ c. search rules)  -- part-alone-end-2
+    (λ c. search rules)
+    (λ c. search rules)
+    (λ c. search rules)
     alone_requires_2
-    (λ c. search rules)  -- add-j
-    (λ c. search rules)  -- loop-less
+    (λ c. search rules)
+    (λ c. search rules)
     loop_again
     returns
-    (λ c. search rules)  -- add-j-2
-    (λ c. search rules)  -- loop-less-2
+    (λ c. search rules)
+    (λ c. search rules)
     loop_again_2
     returns_2)

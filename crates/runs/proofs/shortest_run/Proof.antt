@@ -26,20 +26,20 @@ use Rattle.lowering.specs.Lowering.{Chosen}
 use Rattle.runs.proofs.shortest_run.Statement.{statement}
 use Rattle.runs.proofs.shortest_run.Tie as tie
 
-capped_sum_requires : tie.Need-capped-sum-requires
+capped_sum_requires : tie.Need-capped_sum-norm-requires
 unfolding over table_of
 capped_sum_requires c κs =
     let s = c.before.before.before in
     below_more s.args.jobs 24 s.args.plan.now s.requires.0.list.jobs s.requires.1.0
 
-cast_need : tie.Need-overflow-cast-need
+cast_need : tie.Need-overflow_cast-need
 cast_need c = search rules
 
-mul_need : tie.Need-overflow-mul-need
+mul_need : tie.Need-overflow_mul-need
 mul_need c = search rules
 
 -- what is given, and the run
-module _ (c : tie.After-capped-sum) where
+module _ (c : tie.After-capped_sum-norm) where
   abbrev start : tie.Start
   start = c.before.before.before.before
 
@@ -47,82 +47,82 @@ module _ (c : tie.After-capped-sum) where
   bytes = all_low_first (first_run (table_of start.args.jobs start.args.rules.now) start.args.plan.now)
 
   sum_is : sum_of start.args.norms.now start.args.plan.now ≡ norm (table_of start.args.jobs start.args.rules.now) start.args.plan.now
-  sum_is = array_norm (table_of start.args.jobs start.args.rules.now) start.args.norms.now start.pre.0.exact start.args.plan.now
+  sum_is = array_norm (table_of start.args.jobs start.args.rules.now) start.args.norms.now start.requires.0.exact start.args.plan.now
 
-  norm_is : c.capped_sum.result ≡ sum_of start.args.norms.now start.args.plan.now
-  norm_is = omega (arith, c.capped_sum.ensures, start.pre.1.1, sum_is)
+  norm_is : c.capped_sum-norm.result ≡ sum_of start.args.norms.now start.args.plan.now
+  norm_is = omega (arith, c.capped_sum-norm.ensures, start.requires.1.1, sum_is)
 
   -- two bytes a move, and as many moves as the norm
-  bytes_are : length bytes ≡ 2 * c.capped_sum.result
+  bytes_are : length bytes ≡ 2 * c.capped_sum-norm.result
   bytes_are =
       let t = table_of start.args.jobs start.args.rules.now in
       let p = start.args.plan.now in
-      omega (arith, all_length (first_run t p), first_run_length t start.pre.0.good p start.pre.1.0, norm_is, sum_is)
+      omega (arith, all_length (first_run t p), first_run_length t start.requires.0.good p start.requires.1.0, norm_is, sum_is)
 
-returns : tie.Need-returns
-returns c = too_short (bytes c.before) (start c.before).args.out.now (omega (arith, bytes_are c.before, c.if1.true))
+returns : tie.Need-returns-then-out-need
+returns c = too_short (bytes c.before) (start c.before).args.out.now (omega (arith, bytes_are c.before, c.if-out-need.true))
 
-slice_aggregate_choose : tie.Need-slice-aggregate-choose
+slice_aggregate_choose : tie.Need-slice_bounds-choose-end
 slice_aggregate_choose c = search rules
 
-choose_requires : tie.Need-choose-requires
+choose_requires : tie.Need-choose-low-requires
 choose_requires c κs = search rules
 
-slice_aggregate_write_run : tie.Need-slice-aggregate-write-run
+slice_aggregate_write_run : tie.Need-slice_bounds-write_run-end
 slice_aggregate_write_run c = search rules
 
-sub_write_run : tie.Need-overflow-sub-write-run
+sub_write_run : tie.Need-slice_bounds-write_run-count
 sub_write_run c = search rules
 
-part_write_run_start : tie.Need-slice-bounds-write-run-start
+part_write_run_start : tie.Need-slice_bounds-write_run-start
 part_write_run_start c = search rules
 
-part_write_run_end : tie.Need-slice-bounds-write-run-end
+part_write_run_end : tie.Need-slice_bounds-write_run-end
 part_write_run_end c =
     let e = c.before.before.before.before.before in
-    omega (arith, e.if1.false)
+    omega (arith, e.if-out-need.false)
 
-write_run_requires : tie.Need-write-run-requires
+write_run_requires : tie.Need-write_run-requires
 write_run_requires c κs =
     let m = c.before.before.before.before in
     let e = m.before.before in
     let d = e.before in
     let s = start d in
     let a = s.args in (
-      s.pre.0,
+      s.requires.0,
       (
-        subst (λ (k : ℕ). Chosen a.jobs a.rules.now a.norms.now m.choose.result m.choose.new.1.1.1.1.0 (suc k)) (norm_is d) m.choose.ensures,
-        (s.pre.1.0, length-take-le (2 * d.capped_sum.result - 0) a.out.now (omega (arith, e.if1.false)) ∙ omega (arith, norm_is d)),
+        subst (λ (k : ℕ). Chosen a.jobs a.rules.now a.norms.now m.choose-low.result m.choose-low.new.rows (suc k)) (norm_is d) m.choose-low.ensures,
+        (s.requires.1.0, length-take-le (2 * d.capped_sum-norm.result - 0) a.out.now (omega (arith, e.if-out-need.false)) ∙ omega (arith, norm_is d)),
       ),
     )
 
 -- the bytes of the run, and what stood behind them
-module _ (c : tie.After-write-run) where
-  abbrev summed : tie.After-capped-sum
+module _ (c : tie.After-write_run) where
+  abbrev summed : tie.After-capped_sum-norm
   summed = c.before.before.before.before.before.before.before.before
 
   abbrev out : List ℕ
   out = (start summed).args.out.now
 
   room : length (bytes summed) ≤ length out
-  room = omega (arith, bytes_are summed, c.before.before.before.before.before.before.before.if1.false)
+  room = omega (arith, bytes_are summed, c.before.before.before.before.before.before.before.if-out-need.false)
 
-  out_is : c.write_run.new.1.1.1.1.1.1.0 ++ drop (2 * summed.capped_sum.result - 0) out ≡ put 0 (bytes summed) out
+  out_is : c.write_run.new.out ++ drop (2 * summed.capped_sum-norm.result - 0) out ≡ put 0 (bytes summed) out
   out_is =
-      let k : 2 * summed.capped_sum.result - 0 ≡ length (bytes summed) = omega (arith, bytes_are summed) in
+      let k : 2 * summed.capped_sum-norm.result - 0 ≡ length (bytes summed) = omega (arith, bytes_are summed) in
       ap₂ (λ (l : List ℕ) (m : ℕ). l ++ drop m out) c.write_run.ensures k ∙ sym (put_front (bytes summed) out)
 
 result_requires : tie.Need-result-requires
 result_requires c κs =
     let d = summed c.before.before in
-    omega (arith, norm_is d, sum_is d, (start d).pre.1.1)
+    omega (arith, norm_is d, sum_is d, (start d).requires.1.1)
 
-same_length : tie.Need-same-length
+same_length : tie.Need-shape_of-out
 same_length c =
     let w = c.before.before.before in
     ap length (out_is w) ∙ put_length 0 (bytes (summed w)) (out w) (omega (arith, room w))
 
-returns_2 : tie.Need-returns-2
+returns_2 : tie.Need-returns
 returns_2 c =
     let w = c.before.before.before in
     let d = summed w in
@@ -139,10 +139,10 @@ shortest_run_spec =
     returns
     slice_aggregate_choose
     choose_requires
-    slice_aggregate_write_run
+    part_write_run_end
     sub_write_run
     part_write_run_start
-    part_write_run_end
+    (λ c. search rules)
     write_run_requires
     result_requires
     same_length
