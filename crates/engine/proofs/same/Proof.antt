@@ -6,29 +6,29 @@ use Rattle.engine.proofs.Tables.{rows_comparable, rows_tell, few}
 use Rattle.engine.proofs.same.Statement.{statement}
 use Rattle.engine.proofs.same.Tie as tie
 
-prime_rows_requires : tie.Need-prime-rows-requires
+prime_rows_requires : tie.Need-prime_rows-requires
 prime_rows_requires c κs = search rules
 
-same_plans_requires : tie.Need-same-plans-requires
+same_plans_requires : tie.Need-same_plans-requires
 unfolding old_half
 same_plans_requires c κs =
-    let r = c.before.before.before.before in
-    let s = r.before.before.before.before.before.before.before in
-    let p = r.prime_rows.ensures in (
-      rows_comparable _ _ _ _ _ p s.args.left.now s.args.right.now s.requires.1.0 s.requires.1.1.0,
-      (omega (arith, r.prime_rows.auto.1.1.1.1.0), omega (arith, few _ _ _ _ _ p s.args.right.now s.requires.1.1.0 s.requires.1.1.1.0)),
+    let p = c.prime_rows.ensures in (
+      rows_comparable _ _ _ _ _ p c.args.left.now c.args.right.now c.requires.1.0 c.requires.1.1.0,
+      (omega (arith, c.prime_rows.auto.area), omega (arith, few _ _ _ _ _ p c.args.right.now c.requires.1.1.0 c.requires.1.1.1.0)),
     )
 
-same_length : tie.Need-same-length
+same_length : tie.Need-shape_of-area
 same_length c = search rules
 
 returns : tie.Need-returns
 unfolding old_half
 returns c =
-    let r = c.before.before.before.before.before.before.before in
-    let s = r.before.before.before.before.before.before.before in
-    let k = c.before.before.same_plans in
-    rows_tell _ _ _ _ _ r.prime_rows.ensures s.args.left.now s.args.right.now s.requires.1.0 s.requires.1.1.0 k.result k.ensures
+    let k = c.same_plans in
+    rows_tell _ _ _ _ _ c.prime_rows.ensures c.args.left.now c.args.right.now c.requires.1.0 c.requires.1.1.0 k.result k.ensures
 
 pub same_spec : {M : Type 1} → statement M
-same_spec = tie.close (tie.spec prime_rows_requires same_plans_requires same_length returns)
+same_spec = tie.close (tie.spec
+    prime_rows_requires
+    same_plans_requires
+    same_length
+    returns)

@@ -17,13 +17,13 @@ use Rattle.listing.proofs.Listed.{answer_long, answer_put}
 use Rattle.listing.proofs.put_answer.Statement.{statement}
 use Rattle.listing.proofs.put_answer.Tie as tie
 
-returns : tie.Need-returns
+returns : tie.Need-returns-then-out-row
 returns c =
     let s = c.before.before.before in
-    too_short _ s.args.out.now (omega (arith, c.if1.true, answer_long s.args.count s.args.found s.args.row.now))
+    too_short _ s.args.out.now (omega (arith, c.if-out-row.true, answer_long s.args.count s.args.found s.args.row.now))
 
 -- once the count is written
-module _ (c : tie.After-put-word) where
+module _ (c : tie.After-put_word) where
   abbrev start : tie.Start
   start = c.before.before.before.before.before
 
@@ -34,20 +34,20 @@ module _ (c : tie.After-put-word) where
   out = start.args.out.now
 
   room : 9 + length start.args.row.now ≤ length out
-  room = c.before.before.if1.false
+  room = c.before.before.if-out-row.false
 
-  long : length (set c.put_word.new.0 8 start.args.found) ≡ length out
+  long : length (set c.put_word.new.bytes 8 start.args.found) ≡ length out
   long =
-      length-set c.put_word.new.0 8 start.args.found ∙ ap length c.put_word.ensures
+      length-set c.put_word.new.bytes 8 start.args.found ∙ ap length c.put_word.ensures
       ∙ put_length 0 (word_bytes n) out (omega (arith, room, eight n))
 
 put_requires : tie.Need-put-requires
 put_requires c κs = let w = c.before.before.before in omega (arith, room w, long w)
 
-same_length : tie.Need-same-length
-same_length c = let w = c.before.before.before.before.before.before.before in c.before.before.before.put.auto.0 ∙ long w
+same_length : tie.Need-shape_of-out
+same_length c = let w = c.before.before.before.before.before.before.before in c.before.before.before.put.auto.area ∙ long w
 
-returns_2 : tie.Need-returns-2
+returns_2 : tie.Need-returns
 returns_2 c =
     let p = c.before.before.before in
     let w = p.before.before.before.before in
@@ -60,11 +60,11 @@ pub put_answer_spec : {M : Type 1} → statement M
 put_answer_spec =
     tie.close
     (tie.spec
-    (λ c. search rules)  -- add-if1
+    (λ c. search rules)
     returns
-    (λ c κs. search rules)  -- put-word-requires
-    (λ c. search rules)  -- slice-write-out
+    (λ c κs. search rules)
+    (λ c. search rules)
     put_requires
-    (λ c κs. search rules)  -- result-requires
+    (λ c κs. search rules)
     same_length
     returns_2)

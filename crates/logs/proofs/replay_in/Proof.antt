@@ -67,12 +67,12 @@ module _ (c : tie.After-or_else-refusal) where
 
   refusal_is : c.or_else-refusal.result ≡ with_space start.args.space.now (plan_and_log bs ls p g)
   refusal_is =
-      space_chain start.args.space.now c.before.refusal.ensures c.or_else-refusal.ensures
+      space_chain start.args.space.now c.refusal.ensures c.or_else-refusal.ensures
       (both.or_else-of_call.ensures ∙ ap₂ or_else (plan_chain held p checked.plan_refusal-of_plan.ensures one.or_else.ensures) one.before.refusal-of_log.ensures)
 
   module _ (z : c.or_else-refusal.result ≡ 0) where
     passed : (65536 ≤ length start.args.space.now) × (both.or_else-of_call.result ≡ 0)
-    passed = space_passed start.args.space.now c.before.refusal.ensures c.or_else-refusal.ensures z
+    passed = space_passed start.args.space.now c.refusal.ensures c.or_else-refusal.ensures z
 
     parts : (one.or_else.result ≡ 0) × (one.before.refusal-of_log.result ≡ 0)
     parts = neither one.or_else.result one.before.refusal-of_log.result (sym both.or_else-of_call.ensures ∙ passed.1)
@@ -85,7 +85,7 @@ module _ (c : tie.After-or_else-refusal) where
 
 returns : tie.Need-returns-then-refusal-ne0
 returns c = record {
-  answer = gives_refused (refusal_is c.before.before) _ c.before.if-refusal-ne0.true
+  answer = gives_refused (refusal_is c.before.before) _ c.if-refusal-ne0.true
       (to_z-of_z w32 c.refused.result (record { sfits = c.refused.type_inv }) ∙ c.refused.ensures);
   clears = refl;
 }
@@ -94,34 +94,28 @@ counted_moves_requires : tie.Need-counted_moves-moves-requires
 counted_moves_requires c κs = short c.before c.if-refusal-ne0.false
 
 part_replay_end : tie.Need-slice_bounds-replay-end
-part_replay_end c = front_inside 52632 (start c.before.before).args.space.now few (passed c.before.before c.before.if-refusal-ne0.false).0
+part_replay_end c = front_inside 52632 c.args.space.now few (passed c.before.before c.if-refusal-ne0.false).0
 
 replay_requires : tie.Need-replay-requires
 replay_requires c κs =
-    let m = c.before.before.before.before.before.before in
-    let e = m.before in
-    let k = ready e e.refusal.false in (
-      (front_size 52632 (start e.before).args.space.now few (passed e.before e.if-refusal-ne0.false).0, rw c.before.rules_of.ensures k.good.list, k.within),
-      (m.counted_moves-moves.ensures.size, omega (arith, short e.before e.if-refusal-ne0.false)),
+    let k = ready c.before.before.before.before.before.before.before c.if-refusal-ne0.false in (
+      (front_size 52632 c.args.space.now few (passed c.before.before.before.before.before.before.before c.if-refusal-ne0.false).0, rw c.rules_of.ensures k.good.list, k.within),
+      (c.counted_moves-moves.ensures.size, omega (arith, short c.before.before.before.before.before.before.before c.if-refusal-ne0.false)),
     )
 
 result_requires : tie.Need-result-requires
-result_requires c κs = omega (arith, c.before.before.replay.ensures.small)
+result_requires c κs = omega (arith, c.replay.ensures.small)
 
 returns_2 : tie.Need-returns
 returns_2 c =
-    let r = c.before.before.before in
-    let m = r.before.before.before.before.before.before.before in
-    let e = m.before in
-    let o = e in
-    let k = ready o e.refusal.false in
-    let long = (passed o e.if-refusal-ne0.false).0 in
-    let is = rw (r.before.before.rules_of.ensures, m.counted_moves-moves.ensures.moves, k.is) at r.replay.ensures.is in
+    let k = ready c.before.before.before.before.before.before.before.before.before.before.before c.if-refusal-ne0.false in
+    let long = (passed c.before.before.before.before.before.before.before.before.before.before.before c.if-refusal-ne0.false).0 in
+    let is = rw (c.rules_of.ensures, c.counted_moves-moves.ensures.moves, k.is) at c.replay.ensures.is in
     record {
-      answer = gives_done (refusal_is o) _ e.if-refusal-ne0.false
+      answer = gives_done (refusal_is c.before.before.before.before.before.before.before.before.before.before.before) _ c.if-refusal-ne0.false
           (to_z-of_z w32 c.result.result (record { sfits = c.result.type_inv }) ∙ c.result.ensures ∙ ap pos is);
-      clears = front_cleared (start o).args.space.now r.replay.new.cells 52632 few
-          (r.replay.auto.0 ∙ front_size 52632 (start o).args.space.now few long) long;
+      clears = front_cleared c.args.space.now c.replay.new.cells 52632 few
+          (c.replay.auto.cells ∙ front_size 52632 c.args.space.now few long) long;
     }
 
 pub replay_in_spec : {M : Type 1} → statement M
@@ -146,5 +140,5 @@ replay_in_spec =
     (λ c κs. held_inside (held c.before.before.before.before.before))
     replay_requires
     result_requires
-    (λ c. let r = c.before.before.before in length_front (start r.before.before.before.before.before.before.before.before.before).args.space.now r.replay.new.cells 52632 r.replay.auto.0)
+    (λ c. let r = c.before.before.before in length_front (start r.before.before.before.before.before.before.before.before).args.space.now r.replay.new.cells 52632 r.replay.auto.cells)
     returns_2)

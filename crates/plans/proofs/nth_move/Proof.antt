@@ -8,44 +8,35 @@ use Rattle.table.proofs.HeldTables.{plan_chain, plan_ready}
 use Rattle.plans.proofs.nth_move.Statement.{statement}
 use Rattle.plans.proofs.nth_move.Tie as tie
 
-returns : tie.Need-returns
+returns : tie.Need-returns-then-refusal-ne0
 returns c =
-    let o = c.before.before in
-    let l = o.before.before.before.before in
-    let p = l.before.before.before.before.args.plan.now in
-    writes_refused (plan_chain l.load.ensures p o.before.plan_refusal.ensures o.or_else.ensures) c.before.if1.true
+    let p = c.args.plan.now in
+    writes_refused (plan_chain c.load-table.ensures p c.plan_refusal.ensures c.or_else-refusal.ensures) c.if-refusal-ne0.true
     (to_z-of_z w32 c.refused.result (record { sfits = c.refused.type_inv }) ∙ c.refused.ensures)
 
-nth_move_requires : tie.Need-nth-move-requires
+nth_move_requires : tie.Need-nth_move-requires
 nth_move_requires c κs =
-    let e = c.before.before.before.before.before in
-    let o = e.before in
-    let l = o.before.before.before.before in
-    let p = l.before.before.before.before.args.plan.now in
-    let k = plan_ready l.load.ensures p o.before.plan_refusal.ensures o.or_else.ensures e.if1.false in
-    (rw c.before.rules_of.ensures k.good.list, k.short)
+    let p = c.args.plan.now in
+    let k = plan_ready c.load-table.ensures p c.plan_refusal.ensures c.or_else-refusal.ensures c.if-refusal-ne0.false in
+    (rw c.rules_of.ensures k.good.list, k.short)
 
-returns_2 : tie.Need-returns-2
+returns_2 : tie.Need-returns
 returns_2 c =
-    let m = c.before.before in
-    let e = m.before.before.before.before.before.before in
-    let o = e.before in
-    let l = o.before.before.before.before in
-    let p = l.before.before.before.before.args.plan.now in
-    let k = plan_ready l.load.ensures p o.before.plan_refusal.ensures o.or_else.ensures e.if1.false in
-    writes_done (plan_chain l.load.ensures p o.before.plan_refusal.ensures o.or_else.ensures) e.if1.false
-    (rw (to_z-of_z w32 m.nth_move.result (record { sfits = m.nth_move.type_inv })) (rw (m.before.before.rules_of.ensures, k.is) at m.nth_move.ensures))
+    let p = c.args.plan.now in
+    let k = plan_ready c.load-table.ensures p c.plan_refusal.ensures c.or_else-refusal.ensures c.if-refusal-ne0.false in
+    writes_done (plan_chain c.load-table.ensures p c.plan_refusal.ensures c.or_else-refusal.ensures) c.if-refusal-ne0.false
+    (rw (to_z-of_z w32 c.nth_move.result (record { sfits = c.nth_move.type_inv })) (rw (c.rules_of.ensures, k.is) at c.nth_move.ensures))
 
 pub nth_move_spec : {M : Type 1} → statement M
 nth_move_spec =
     tie.close
     (tie.spec
-    (λ c κs. search rules)  -- load-requires
-    (λ c κs. search rules)  -- plan-refusal-requires
-    (λ c κs. search rules)  -- or-else-requires
-    (λ c κs. search rules)  -- refused-requires
+    (λ c κs. search rules)
+    (λ c κs. search rules)
+    (λ c κs. search rules)
+    (λ c κs. search rules)
     returns
-    (λ c κs. search rules)  -- rules-of-requires
+    (λ c κs. search rules)
     nth_move_requires
-    (λ c. search rules)  -- same-length
+    (λ c. search rules)
     returns_2)

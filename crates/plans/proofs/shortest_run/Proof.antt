@@ -8,45 +8,36 @@ use Rattle.table.proofs.HeldTables.{plan_chain, plan_ready}
 use Rattle.plans.proofs.shortest_run.Statement.{statement}
 use Rattle.plans.proofs.shortest_run.Tie as tie
 
-returns : tie.Need-returns
+returns : tie.Need-returns-then-refusal-ne0
 returns c =
-    let o = c.before.before in
-    let l = o.before.before.before.before in
-    let p = l.before.before.before.before.args.plan.now in
-    let e = plan_chain l.load.ensures p o.before.plan_refusal.ensures o.or_else.ensures in
-    writes_refused e c.before.if1.true (to_z-of_z w32 c.refused.result (record { sfits = c.refused.type_inv }) ∙ c.refused.ensures)
+    let p = c.args.plan.now in
+    let e = plan_chain c.load-table.ensures p c.plan_refusal.ensures c.or_else-refusal.ensures in
+    writes_refused e c.if-refusal-ne0.true (to_z-of_z w32 c.refused.result (record { sfits = c.refused.type_inv }) ∙ c.refused.ensures)
 
-shortest_run_requires : tie.Need-shortest-run-requires
+shortest_run_requires : tie.Need-shortest_run-requires
 shortest_run_requires c κs =
-    let e = c.before.before.before.before.before.before in
-    let o = e.before in
-    let l = o.before.before.before.before in
-    let p = l.before.before.before.before.args.plan.now in
-    let k = plan_ready l.load.ensures p o.before.plan_refusal.ensures o.or_else.ensures e.if1.false in
-    rw c.before.before.rules_of.ensures (k.good, (k.over_table, k.norm_small))
+    let p = c.args.plan.now in
+    let k = plan_ready c.load-table.ensures p c.plan_refusal.ensures c.or_else-refusal.ensures c.if-refusal-ne0.false in
+    rw c.rules_of.ensures (k.good, (k.over_table, k.norm_small))
 
-returns_2 : tie.Need-returns-2
+returns_2 : tie.Need-returns
 returns_2 c =
-    let m = c.before.before in
-    let e = m.before.before.before.before.before.before.before in
-    let o = e.before in
-    let l = o.before.before.before.before in
-    let p = l.before.before.before.before.args.plan.now in
-    let k = plan_ready l.load.ensures p o.before.plan_refusal.ensures o.or_else.ensures e.if1.false in
-    let w = rw (m.before.before.before.rules_of.ensures, k.is) at m.shortest_run.ensures in
-    writes_done (plan_chain l.load.ensures p o.before.plan_refusal.ensures o.or_else.ensures) e.if1.false
-    (rw (to_z-of_z w32 m.shortest_run.result (record { sfits = m.shortest_run.type_inv })) w)
+    let p = c.args.plan.now in
+    let k = plan_ready c.load-table.ensures p c.plan_refusal.ensures c.or_else-refusal.ensures c.if-refusal-ne0.false in
+    let w = rw (c.rules_of.ensures, k.is) at c.shortest_run.ensures in
+    writes_done (plan_chain c.load-table.ensures p c.plan_refusal.ensures c.or_else-refusal.ensures) c.if-refusal-ne0.false
+    (rw (to_z-of_z w32 c.shortest_run.result (record { sfits = c.shortest_run.type_inv })) w)
 
 pub shortest_run_spec : {M : Type 1} → statement M
 shortest_run_spec =
     tie.close
     (tie.spec
-    (λ c κs. search rules)  -- load-requires
-    (λ c κs. search rules)  -- plan-refusal-requires
-    (λ c κs. search rules)  -- or-else-requires
-    (λ c κs. search rules)  -- refused-requires
+    (λ c κs. search rules)
+    (λ c κs. search rules)
+    (λ c κs. search rules)
+    (λ c κs. search rules)
     returns
-    (λ c κs. search rules)  -- rules-of-requires
+    (λ c κs. search rules)
     shortest_run_requires
-    (λ c. search rules)  -- same-length
+    (λ c. search rules)
     returns_2)
