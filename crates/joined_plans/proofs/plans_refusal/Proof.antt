@@ -9,6 +9,6 @@ pub plans_refusal_spec : {M : Type 1} → statement M
 plans_refusal_spec =
     tie.close
     (tie.spec
-    (λ c. right_eight _ _ c.if1.true)  -- returns
-    (λ c κs. search rules)  -- or-else-requires
-    (λ c. c.or_else.ensures ∙ not_eight _ _ c.before.if1.false))  -- returns-2
+    (λ c. right_eight _ _ c.if-right-eq8.true)
+    (λ c κs. search rules)
+    (λ c. c.or_else.ensures ∙ not_eight _ _ c.before.if-right-eq8.false))  -- returns-2

@@ -18,7 +18,7 @@ use Rattle.joined_plans.proofs.same_joined.Statement.{statement}
 use Rattle.joined_plans.proofs.same_joined.Tie as tie
 
 -- once the plan is renumbered
-module _ (c : tie.After-renumber-plan) where
+module _ (c : tie.After-renumber_plan) where
   abbrev start : tie.Start
   start = c.before.before.before.before.before.before
 
@@ -28,20 +28,20 @@ module _ (c : tie.After-renumber-plan) where
   abbrev q : List ℕ
   q = start.args.right.now
 
-  stands : take (length q - 0) c.renumber_plan.new.1.1.0 ≡ renumbered n q
+  stands : take (length q - 0) c.renumber_plan.new.out ≡ renumbered n q
   stands =
       let at : length q - 0 ≡ 0 + length (renumbered n q) = omega (arith, renumbered_length n q) in
       ap₂ (λ (k : ℕ) (l : List ℕ). take k l) at c.renumber_plan.ensures ∙ put_up_to 0 (renumbered n q) (replicate 4096 0) (omega arith)
 
 same_requires : tie.Need-same-requires
 same_requires c κs =
-    let r = c.before.before.before.before in
+    let r = c.before.before.before in
     let s = start r in
     let n = s.args.jobs in
     let m = s.args.others in
-    let ((left, right), ((few, small), room)) = s.pre.1 in
+    let ((left, right), ((few, small), room)) = s.requires.1 in
     let e = sym (stands r) in (
-      s.pre.0,
+      s.requires.0,
       (
         below_more n (n + m) s.args.left.now (omega arith) left,
         (
@@ -54,7 +54,7 @@ same_requires c κs =
 returns : tie.Need-returns
 returns c =
     let w = c.before.before in
-    let r = w.before.before.before.before.before in
+    let r = w.before.before.before.before in
     let s = start r in
     w.same.ensures ∙ ap (method.same (table_of (s.args.jobs + s.args.others) s.args.rules.now) s.args.left.now) (stands r)
 
@@ -62,15 +62,15 @@ pub same_joined_spec : {M : Type 1} → statement M
 same_joined_spec =
     tie.close
     (tie.spec
-    (λ c. search rules)  -- cast-renumber-plan
-    (λ c. search rules)  -- slice-aggregate-renumber-plan
+    (λ c. search rules)
+    (λ c. search rules)
     (λ c κs.
     let s = c.before.before.before.before.before in
-    (s.requires.1.1.0.0, below_more s.args.others (256 - s.args.jobs) s.args.right.now (omega (arith, s.requires.0.list.jobs)) s.requires.1.0.1))  -- renumber-plan-requires
-    (λ c. search rules)  -- add-same
-    (λ c. search rules)  -- sub-same
-    (λ c. search rules)  -- part-same-start
-    (λ c. search rules)  -- part-same-end
+    (s.requires.1.1.0.0, below_more s.args.others (256 - s.args.jobs) s.args.right.now (omega (arith, s.requires.0.list.jobs)) s.requires.1.0.1))
+    (λ c. search rules)
+    (λ c. search rules)
+    (λ c. search rules)
+    (λ c. search rules)
     same_requires
-    (λ c. search rules)  -- same-length
+    (λ c. search rules)
     returns)

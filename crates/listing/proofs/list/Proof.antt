@@ -19,30 +19,21 @@ module _ (c : tie.After-counts-counts) where
 
 returns : tie.Need-returns-then-count-index
 returns c =
-    let p = c.before.before in
-    let t = p.before.before.before in
-    let k = t.before in
-    none_written _ _ _ _ _ _ (start k).requires.0 (primed k).prime_rows.ensures (weighed k).weights-weights.ensures _ _ _ k.counts-counts.ensures t.if-count-index.true
-    (rw (to_z-of_z w32 p.put_answer.result (record { sfits = p.put_answer.type_inv })) p.put_answer.ensures)
+    none_written _ _ _ _ _ _ c.requires.0 c.prime_rows.ensures c.weights-weights.ensures _ _ _ c.counts-counts.ensures c.if-count-index.true
+    (rw (to_z-of_z w32 c.put_answer.result (record { sfits = c.put_answer.type_inv })) c.put_answer.ensures)
 
 nth_row_requires : tie.Need-nth_row-form-requires
 nth_row_requires c κs =
-    let e = c.before.before in
-    let k = e.before in
-    let w = (weighed k).weights-weights.ensures in (
-      ((start k).requires.0.list.jobs, w.size, (start k).requires.1.0),
-      (k.counts-counts.ensures, index_less _ _ _ _ _ _ (start k).requires.0 (primed k).prime_rows.ensures w _ _ _ k.counts-counts.ensures e.if-count-index.false),
+    let w = c.weights-weights.ensures in (
+      (c.requires.0.list.jobs, w.size, c.requires.1.0),
+      (c.counts-counts.ensures, index_less _ _ _ _ _ _ c.requires.0 c.prime_rows.ensures w _ _ _ c.counts-counts.ensures c.if-count-index.false),
     )
 
 returns_2 : tie.Need-returns
 returns_2 c =
-    let p = c.before.before in
-    let r = p.before.before.before.before.before in
-    let e = r.before.before.before in
-    let k = e in
-    row_written _ _ _ _ _ _ (start k).requires.0 (primed k).prime_rows.ensures (weighed k).weights-weights.ensures _ _ _ k.counts-counts.ensures e.if-count-index.false
-    r.nth_row-form.result.jobs r.nth_row-form.result.len r.nth_row-form.ensures
-    (rw (to_z-of_z w32 p.put_answer-2.result (record { sfits = p.put_answer-2.type_inv })) p.put_answer-2.ensures)
+    row_written _ _ _ _ _ _ c.requires.0 c.prime_rows.ensures c.weights-weights.ensures _ _ _ c.counts-counts.ensures c.if-count-index.false
+    c.nth_row-form.result.jobs c.nth_row-form.result.len c.nth_row-form.ensures
+    (rw (to_z-of_z w32 c.put_answer-2.result (record { sfits = c.put_answer-2.type_inv })) c.put_answer-2.ensures)
 
 pub list_spec : {M : Type 1} → statement M
 list_spec =

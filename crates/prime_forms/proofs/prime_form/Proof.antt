@@ -15,10 +15,10 @@ pub prime_form_spec : {M : Type 1} → statement M
 prime_form_spec =
     tie.close
     (tie.spec
-    (λ c. search rules)  -- sub-prime-form-alike
-    (λ c. search rules)  -- part-prime-form-alike-start
-    (λ c. search rules)  -- part-prime-form-alike-end
-    (λ c κs. search rules)  -- prime-form-alike-requires
-    (λ c. search rules)  -- same-length
-    (λ c. search rules)  -- same-length-2
+    (λ c. search rules)
+    (λ c. search rules)
+    (λ c. search rules)
+    (λ c κs. search rules)
+    (λ c. search rules)
+    (λ c. search rules)
     returns)

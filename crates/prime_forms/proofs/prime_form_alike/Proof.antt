@@ -9,7 +9,7 @@ use Rattle.prime_forms.proofs.prime_form_alike.Tie as tie
 returns : tie.Need-returns
 returns c =
     let l = c.before.before.leave in
-    let w = c.before.before.before.before.before.before.before.before.form_in in
+    let w = c.before.before.before.before.before.before.before.before.form_in-answer in
     record {
       written = rw (to_z-of_z w32 l.result (record { sfits = l.type_inv }) ∙ l.ensures.0 ∙ to_z-of_z w32 w.result (record { sfits = w.type_inv })) w.ensures.written;
       cleared = l.ensures.1 ∙ w.ensures.clears;
@@ -19,8 +19,8 @@ pub prime_form_alike_spec : {M : Type 1} → statement M
 prime_form_alike_spec =
     tie.close
     (tie.spec
-    (λ c κs. search rules)  -- form-in-requires
-    (λ c κs. search rules)  -- leave-requires
-    (λ c. search rules)  -- same-length
-    (λ c. search rules)  -- same-length-2
+    (λ c κs. search rules)
+    (λ c κs. search rules)
+    (λ c. search rules)
+    (λ c. search rules)
     returns)

@@ -15,9 +15,9 @@ pub compare_spec : {M : Type 1} → statement M
 compare_spec =
     tie.close
     (tie.spec
-    (λ c. search rules)  -- sub-compare-alike
-    (λ c. search rules)  -- part-compare-alike-start
-    (λ c. search rules)  -- part-compare-alike-end
-    (λ c κs. search rules)  -- compare-alike-requires
-    (λ c. search rules)  -- same-length
+    (λ c. search rules)
+    (λ c. search rules)
+    (λ c. search rules)
+    (λ c κs. search rules)
+    (λ c. search rules)
     returns)

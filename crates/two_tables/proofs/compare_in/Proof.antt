@@ -39,11 +39,11 @@ few : 24576 ≤ 65536
 few = omega arith
 
 -- the two tables, and what the checks of both came to
-module _ (c : tie.After-or-else2) where
-  abbrev second : tie.After-load2
+module _ (c : tie.After-or_else-of_images) where
+  abbrev second : tie.After-load-other
   second = c.before.before.before.before.before.before.before.before.before.before
 
-  abbrev loaded : tie.After-load
+  abbrev loaded : tie.After-load-table
   loaded = second.before
 
   abbrev start : tie.Start
@@ -55,54 +55,54 @@ module _ (c : tie.After-or-else2) where
   abbrev cs : List ℕ
   cs = start.args.second.now
 
-  first_loads : let l = loaded.load.result in Loads (image_refusal bs) (table_in bs) l.refusal l.jobs l.end l.rules l.norms
-  first_loads = loaded.load.ensures
+  first_loads : let l = loaded.load-table.result in Loads (image_refusal bs) (table_in bs) l.refusal l.jobs l.end l.rules l.norms
+  first_loads = loaded.load-table.ensures
 
-  second_loads : let l = second.load2.result in Loads (image_refusal cs) (table_in cs) l.refusal l.jobs l.end l.rules l.norms
-  second_loads = second.load2.ensures
+  second_loads : let l = second.load-other.result in Loads (image_refusal cs) (table_in cs) l.refusal l.jobs l.end l.rules l.norms
+  second_loads = second.load-other.ensures
 
-  both : c.or_else2.result ≡ or_else loaded.load.result.refusal (or_else second.load2.result.refusal c.before.before.refusal.result)
-  both = c.or_else2.ensures ∙ ap (or_else loaded.load.result.refusal) c.before.or_else.ensures
+  both : c.or_else-of_images.result ≡ or_else loaded.load-table.result.refusal (or_else second.load-other.result.refusal c.refusal-of_sizes.result)
+  both = c.or_else-of_images.ensures ∙ ap (or_else loaded.load-table.result.refusal) c.or_else.ensures
 
-  rules_fit : let l = loaded.load.result in let k = second.load2.result in Fits c.or_else2.result l.jobs l.end l.rules (take k.end k.rules)
-  rules_fit = fits first_loads second_loads c.before.before.refusal.ensures both
+  rules_fit : let l = loaded.load-table.result in let k = second.load-other.result in Fits c.or_else-of_images.result l.jobs l.end l.rules (take k.end k.rules)
+  rules_fit = fits first_loads second_loads c.refusal-of_sizes.ensures both
 
 -- once the tables are joined
-module _ (c : tie.After-join-norms) where
-  abbrev put : tie.After-join-rules
+module _ (c : tie.After-join_norms-norms) where
+  abbrev put : tie.After-join_rules-last
   put = c.before.before.before
 
-  abbrev images : tie.After-or-else2
-  images = put.before.before.before.before.before.before
+  abbrev images : tie.After-or_else-of_images
+  images = put.before.before.before.before.before
 
   abbrev n : ℕ
-  n = (loaded images).load.result.jobs
+  n = (loaded images).load-table.result.jobs
 
   abbrev m : ℕ
-  m = (second images).load2.result.jobs
+  m = (second images).load-other.result.jobs
 
   abbrev rules : List ℕ
-  rules = put.join_rules.last.1.1.1.0
+  rules = put.join_rules-last.new.rules
 
-  joins : let l = (loaded images).load.result in let k = (second images).load2.result in
-      JoinsRules images.or_else2.result n l.end l.rules (take k.end k.rules) put.join_rules.result rules
+  joins : let l = (loaded images).load-table.result in let k = (second images).load-other.result in
+      JoinsRules images.or_else-of_images.result n l.end l.rules (take k.end k.rules) put.join_rules-last.result rules
   joins =
-      let l = (loaded images).load.result in
-      subst (λ (more : List ℕ). JoinsRules images.or_else2.result n l.end l.rules more put.join_rules.result rules) put.before.rules_of.ensures put.join_rules.ensures
+      let l = (loaded images).load-table.result in
+      subst (λ (more : List ℕ). JoinsRules images.or_else-of_images.result n l.end l.rules more put.join_rules-last.result rules) put.before.rules_of.ensures put.join_rules-last.ensures
 
-  held : Loads (images_refusal (bs images) (cs images)) (joined (table_in (bs images)) (table_in (cs images))) images.or_else2.result
-      (cond (eqb images.or_else2.result 0) (n + m) 0) put.join_rules.result rules c.join_norms.result
-  held = joined_loads (first_loads images) (second_loads images) images.before.before.refusal.ensures (both images) joins c.join_norms.ensures
+  held : Loads (images_refusal (bs images) (cs images)) (joined (table_in (bs images)) (table_in (cs images))) images.or_else-of_images.result
+      (cond (eqb images.or_else-of_images.result 0) (n + m) 0) put.join_rules-last.result rules c.join_norms-norms.result
+  held = joined_loads (first_loads images) (second_loads images) images.before.before.refusal-of_sizes.ensures (both images) joins c.join_norms-norms.ensures
 
 -- once all checks are made
-module _ (c : tie.After-or-else4) where
-  abbrev listed : tie.After-replace
-  listed = c.before.before.before.before
+module _ (c : tie.After-or_else-refusal) where
+  abbrev listed : tie.After-replace-of_tables
+  listed = c.before.before.before
 
-  abbrev normed : tie.After-join-norms
+  abbrev normed : tie.After-join_norms-norms
   normed = listed.before.before
 
-  abbrev given : tie.After-or-else2
+  abbrev given : tie.After-or_else-of_images
   given = images normed
 
   abbrev args : tie.Start
@@ -120,124 +120,119 @@ module _ (c : tie.After-or-else4) where
   abbrev space : List ℕ
   space = args.args.space.now
 
-  abbrev plans : tie.After-plans-refusal
+  abbrev plans : tie.After-plans_refusal-of_plans
   plans = given.before.before.before
 
-  listed_held : Loads (joined_refusal (bs given) (cs given) ls) (joined_table (bs given) (cs given) ls) listed.replace.result
-      (cond (eqb given.or_else2.result 0) (n normed + m normed) 0) (put normed).join_rules.result listed.replace.last.1.1.0 normed.join_norms.result
-  listed_held = listed.replace.ensures _ _ _ _ (held normed)
+  listed_held : Loads (joined_refusal (bs given) (cs given) ls) (joined_table (bs given) (cs given) ls) listed.replace-of_tables.result
+      (cond (eqb given.or_else-of_images.result 0) (n normed + m normed) 0) (put normed).join_rules-last.result listed.replace-of_tables.new.rules normed.join_norms-norms.result
+  listed_held = listed.replace-of_tables.ensures _ _ _ _ (held normed)
 
   -- the two tables passed, if the chain did
-  tables_passed : listed.replace.result ≡ 0 → ((loaded given).load.result.refusal ≡ 0) × ((second given).load2.result.refusal ≡ 0)
+  tables_passed : listed.replace-of_tables.result ≡ 0 → ((loaded given).load-table.result.refusal ≡ 0) × ((second given).load-other.result.refusal ≡ 0)
   tables_passed z =
       let (x, rest) = neither _ _ (neither (images_refusal (bs given) (cs given)) (alike_refusal ls) (sym listed_held.refusal_is ∙ z)).0 in
       ((first_loads given).refusal_is ∙ x, (second_loads given).refusal_is ∙ (neither _ _ rest).0)
 
-  plans_are : listed.replace.result ≡ 0 → plans.plans_refusal.result ≡ plans_refusal_between (table_in (bs given)) (table_in (cs given)) p q
+  plans_are : listed.replace-of_tables.result ≡ 0 → plans.plans_refusal-of_plans.result ≡ plans_refusal_between (table_in (bs given)) (table_in (cs given)) p q
   plans_are z =
       let (x, y) = tables_passed z in
-      between (first_loads given) (second_loads given) p q plans.before.before.before.plan_refusal.ensures plans.before.plan_refusal2.ensures plans.plans_refusal.ensures x y
+      between (first_loads given) (second_loads given) p q plans.before.before.before.plan_refusal.ensures plans.before.plan_refusal-2.ensures plans.plans_refusal-of_plans.ensures x y
 
-  refusal_is : c.or_else4.result ≡ with_space space (two_tables (bs given) (cs given) ls p q)
+  refusal_is : c.or_else-refusal.result ≡ with_space space (two_tables (bs given) (cs given) ls p q)
   refusal_is =
-      space_chain space c.before.before.refusal2.ensures c.or_else4.ensures (c.before.or_else3.ensures ∙ chain listed_held.refusal_is plans_are)
+      space_chain space c.refusal.ensures c.or_else-refusal.ensures (c.or_else-2.ensures ∙ chain listed_held.refusal_is plans_are)
 
-  module _ (z : c.or_else4.result ≡ 0) where
-    room : (65536 ≤ length space) × (c.before.or_else3.result ≡ 0)
-    room = space_passed space c.before.before.refusal2.ensures c.or_else4.ensures z
+  module _ (z : c.or_else-refusal.result ≡ 0) where
+    room : (65536 ≤ length space) × (c.or_else-2.result ≡ 0)
+    room = space_passed space c.refusal.ensures c.or_else-refusal.ensures z
 
-    none : (listed.replace.result ≡ 0) × (plans.plans_refusal.result ≡ 0)
-    none = neither _ _ (sym c.before.or_else3.ensures ∙ room.1)
+    none : (listed.replace-of_tables.result ≡ 0) × (plans.plans_refusal-of_plans.result ≡ 0)
+    none = neither _ _ (sym c.or_else-2.ensures ∙ room.1)
 
-    all_jobs : cond (eqb given.or_else2.result 0) (n normed + m normed) 0 ≡ n normed + m normed
+    all_jobs : cond (eqb given.or_else-of_images.result 0) (n normed + m normed) 0 ≡ n normed + m normed
     all_jobs =
         let x = (neither (images_refusal (bs given) (cs given)) (alike_refusal ls) (sym listed_held.refusal_is ∙ none.0)).0 in
         ap (λ (r : ℕ). cond (eqb r 0) (n normed + m normed) 0) ((held normed).refusal_is ∙ x)
 
-    whole : Holds (joined_table (bs given) (cs given) ls) (n normed + m normed) (put normed).join_rules.result listed.replace.last.1.1.0 normed.join_norms.result
+    whole : Holds (joined_table (bs given) (cs given) ls) (n normed + m normed) (put normed).join_rules-last.result listed.replace-of_tables.new.rules normed.join_norms-norms.result
     whole =
-        subst (λ (k : ℕ). Holds (joined_table (bs given) (cs given) ls) k (put normed).join_rules.result listed.replace.last.1.1.0 normed.join_norms.result) all_jobs
+        subst (λ (k : ℕ). Holds (joined_table (bs given) (cs given) ls) k (put normed).join_rules-last.result listed.replace-of_tables.new.rules normed.join_norms-norms.result) all_jobs
         (listed_held.holds none.0)
 
-    left_plan : let l = (loaded given).load.result in Ready (table_in (bs given)) l.jobs (take l.end l.rules) l.norms p
+    left_plan : let l = (loaded given).load-table.result in Ready (table_in (bs given)) l.jobs (take l.end l.rules) l.norms p
     left_plan =
         let (x, y) = tables_passed none.0 in
-        left_ready (first_loads given) (second_loads given) p q plans.before.before.before.plan_refusal.ensures plans.before.plan_refusal2.ensures plans.plans_refusal.ensures x y none.1
+        left_ready (first_loads given) (second_loads given) p q plans.before.before.before.plan_refusal.ensures plans.before.plan_refusal-2.ensures plans.plans_refusal-of_plans.ensures x y none.1
 
-    right_plan : let l = (second given).load2.result in Ready (table_in (cs given)) l.jobs (take l.end l.rules) l.norms q
+    right_plan : let l = (second given).load-other.result in Ready (table_in (cs given)) l.jobs (take l.end l.rules) l.norms q
     right_plan =
         let (x, y) = tables_passed none.0 in
-        right_ready (first_loads given) (second_loads given) p q plans.before.before.before.plan_refusal.ensures plans.before.plan_refusal2.ensures plans.plans_refusal.ensures x y none.1
+        right_ready (first_loads given) (second_loads given) p q plans.before.before.before.plan_refusal.ensures plans.before.plan_refusal-2.ensures plans.plans_refusal-of_plans.ensures x y none.1
 
-    small : sum_of normed.join_norms.result (renumbered (n normed) q) ≤ 4096
+    small : sum_of normed.join_norms-norms.result (renumbered (n normed) q) ≤ 4096
     small =
         subst (λ (k : ℕ). k ≤ 4096)
-        (sym (sum_joined (n normed) (loaded given).load.result.norms (second given).load2.result.norms normed.join_norms.result normed.join_norms.ensures (m normed)
+        (sym (sum_joined (n normed) (loaded given).load-table.result.norms (second given).load-other.result.norms normed.join_norms-norms.result normed.join_norms-norms.ensures (m normed)
         whole.good.list.jobs q right_plan.within))
         right_plan.sum_small
 
-returns : tie.Need-returns
+returns : tie.Need-returns-then-refusal-ne0
 returns c = record {
-  answer = gives_refused (refusal_is c.before.before) _ c.before.if1.true
+  answer = gives_refused (refusal_is c.before.before) _ c.if-refusal-ne0.true
       (to_z-of_z w32 c.refused.result (record { sfits = c.refused.type_inv }) ∙ c.refused.ensures);
   clears = refl;
 }
 
-same_joined_requires : tie.Need-same-joined-requires
+same_joined_requires : tie.Need-same_joined-requires
 same_joined_requires c κs =
-    let e = c.before.before.before.before.before.before in
-    let d = e.before in
-    let z = e.if1.false in (
-      rw c.before.before.rules_of2.ensures (whole d z).good,
-      (((left_plan d z).within, (right_plan d z).within), (((right_plan d z).short, small d z), front_size 24576 (space d) few (room d z).0)),
+    let z = c.if-refusal-ne0.false in (
+      rw c.rules_of-2.ensures (whole c.before.before.before.before.before.before z).good,
+      (((left_plan c.before.before.before.before.before.before z).within, (right_plan c.before.before.before.before.before.before z).within), (((right_plan c.before.before.before.before.before.before z).short, small c.before.before.before.before.before.before z), front_size 24576 (space c.before.before.before.before.before.before) few (room c.before.before.before.before.before.before z).0)),
     )
 
-returns_2 : tie.Need-returns-2
+returns_2 : tie.Need-returns
 returns_2 c =
-    let s = c.before.before.before in
-    let e = s.before.before.before.before.before.before.before in
-    let d = e.before in
-    let z = e.if1.false in
-    let long = (room d z).0 in
+    let z = c.if-refusal-ne0.false in
+    let long = (room c.before.before.before.before.before.before.before.before.before.before z).0 in
     record {
-      answer = gives_done (refusal_is d) _ z
+      answer = gives_done (refusal_is c.before.before.before.before.before.before.before.before.before.before) _ z
           (to_z-of_z w32 c.one_if.result (record { sfits = c.one_if.type_inv }) ∙ c.one_if.ensures
           ∙ ap (λ (b : Bool). pos (one_if b))
-          (s.same_joined.ensures
-          ∙ ap₂ (λ (t : Table) (k : ℕ). same t (p d) (renumbered k (q d)))
-          (ap (table_of (n (normed d) + m (normed d))) s.before.before.before.rules_of2.ensures ∙ (whole d z).is)
-          (held_jobs (first_loads (given d)) (tables_passed d (none d z).0).0)));
-      clears = front_cleared (space d) s.same_joined.new.1.1.1.1.1.1.0 24576 few
-          (s.same_joined.auto.1.1.1.1.1.1.0 ∙ front_size 24576 (space d) few long) long;
+          (c.same_joined.ensures
+          ∙ ap₂ (λ (t : Table) (k : ℕ). same t (p c.before.before.before.before.before.before.before.before.before.before) (renumbered k (q c.before.before.before.before.before.before.before.before.before.before)))
+          (ap (table_of (n (normed c.before.before.before.before.before.before.before.before.before.before) + m (normed c.before.before.before.before.before.before.before.before.before.before))) c.rules_of-2.ensures ∙ (whole c.before.before.before.before.before.before.before.before.before.before z).is)
+          (held_jobs (first_loads (given c.before.before.before.before.before.before.before.before.before.before)) (tables_passed c.before.before.before.before.before.before.before.before.before.before (none c.before.before.before.before.before.before.before.before.before.before z).0).0)));
+      clears = front_cleared (space c.before.before.before.before.before.before.before.before.before.before) c.same_joined.new.area 24576 few
+          (c.same_joined.auto.area ∙ front_size 24576 (space c.before.before.before.before.before.before.before.before.before.before) few long) long;
     }
 
 pub compare_in_spec : {M : Type 1} → statement M
 compare_in_spec =
     tie.close
     (tie.spec
-    (λ c κs. tt)  -- load-requires
-    (λ c κs. tt)  -- load-requires-2
-    (λ c κs. c.before.before.before.before.load.ensures.few)  -- plan-refusal-requires
-    (λ c κs. c.before.before.before.before.before.load2.ensures.few)  -- plan-refusal-requires-2
-    (λ c κs. tt)  -- plans-refusal-requires
-    (λ c κs. let k = c.before.before.before.before.before.before.before in let l = k.before in (l.load.ensures.few, (k.load2.ensures.few, (l.load.ensures.inside, k.load2.ensures.inside))))  -- refusal-requires
-    (λ c κs. tt)  -- or-else-requires
-    (λ c κs. tt)  -- or-else-requires-2
-    (λ c κs. held_inside (second_loads c.before.before.before.before))  -- rules-of-requires
-    (λ c κs. rw c.rules_of.ensures (rules_fit c.before.before.before.before.before))  -- join-rules-requires
-    (λ c κs. tt)  -- join-norms-requires
-    (λ c κs. let h = held c.before in (h.inside, h.size))  -- replace-requires
-    (λ c κs. tt)  -- refusal-requires-2
-    (λ c κs. tt)  -- or-else-requires-3
-    (λ c κs. tt)  -- or-else-requires-4
-    (λ c κs. tt)  -- refused-requires
-    (λ c. refl)  -- same-length
+    (λ c κs. tt)
+    (λ c κs. tt)
+    (λ c κs. c.before.before.before.before.load-table.ensures.few)
+    (λ c κs. c.before.before.before.before.before.load-other.ensures.few)
+    (λ c κs. tt)
+    (λ c κs. let k = c.before.before.before.before.before.before.before in let l = k.before in (l.load-table.ensures.few, (k.load-other.ensures.few, (l.load-table.ensures.inside, k.load-other.ensures.inside))))
+    (λ c κs. tt)
+    (λ c κs. tt)
+    (λ c κs. held_inside (second_loads c.before.before.before))
+    (λ c κs. rw c.rules_of.ensures (rules_fit c.before.before.before.before))
+    (λ c κs. tt)
+    (λ c κs. let h = held c.before in (h.inside, h.size))
+    (λ c κs. tt)
+    (λ c κs. tt)
+    (λ c κs. tt)
+    (λ c κs. tt)
+    (λ c. refl)
     returns
-    (λ c κs. let d = c.before.before.before.before in held_inside (listed_held d))  -- rules-of-requires-2
-    (λ c. from_front 24576)  -- sub-same-joined
-    (λ c. from_front 24576)  -- part-same-joined-start
-    (λ c. let e = c.before.before.before.before.before in front_inside 24576 (space e.before) few (room e.before e.if1.false).0)  -- part-same-joined-end
+    (λ c κs. let d = c.before.before.before in held_inside (listed_held d))
+    (λ c. from_front 24576)
+    (λ c. from_front 24576)
+    (λ c. let e = c.before.before.before.before.before in front_inside 24576 (space e) few (room e e.if-refusal-ne0.false).0)
     same_joined_requires
-    (λ c κs. tt)  -- one-if-requires
-    (λ c. let s = c.before.before.before in length_front (space s.before.before.before.before.before.before.before.before) s.same_joined.new.1.1.1.1.1.1.0 24576 s.same_joined.auto.1.1.1.1.1.1.0)  -- same-length-2
+    (λ c κs. tt)
+    (λ c. let s = c.before.before.before in length_front (space s.before.before.before.before.before.before.before.before) s.same_joined.new.area 24576 s.same_joined.auto.area)
     returns_2)
