@@ -231,8 +231,8 @@ compare_in_spec =
     (λ c κs. let d = c.before.before.before in held_inside (listed_held d))
     (λ c. from_front 24576)
     (λ c. from_front 24576)
-    (λ c. let e = c.before.before.before.before.before in front_inside 24576 (space e) few (room e e.if-refusal-ne0.false).0)
+    (λ c. let e = c.before.before.before.before.before in front_inside 24576 (space e) few (room e c.if-refusal-ne0.false).0)
     same_joined_requires
     (λ c κs. tt)
-    (λ c. let s = c.before.before.before in length_front (space s.before.before.before.before.before.before.before.before) s.same_joined.new.area 24576 s.same_joined.auto.area)
+    (λ c. length_front (space c.before.before.before.before.before.before.before.before.before.before) c.same_joined.new.area 24576 c.same_joined.auto.area)
     returns_2)
