@@ -4,10 +4,10 @@ use native.Mathlib.Omega.{arith}
 use Rattle.look.proofs.show_jobs.Statement.{statement}
 use Rattle.look.proofs.show_jobs.Tie as tie
 
-abbrev invariant_loop : tie.invariant-loop
+abbrev invariant_loop : tie.invariant-loop-job
 invariant_loop image jobs job₀ job = Unit {0}
 
-abbrev decreases_loop : tie.decreases-loop
+abbrev decreases_loop : tie.decreases-loop-job
 decreases_loop image jobs job₀ job = jobs - job
 
 pub show_jobs_spec : {M : Type 1} → statement M
@@ -16,10 +16,10 @@ show_jobs_spec =
     (tie.spec
     invariant_loop
     decreases_loop
-    (λ c. tt)  -- loop-holds
-    (λ c κs. tt)  -- show-job-requires
-    (λ c. omega arith)  -- add-job
-    (λ c. omega arith)  -- loop-less
-    (λ c. tt)  -- loop-again
-    (λ c. tt)  -- returns
+    (λ c. tt)
+    (λ c κs. tt)
+    (λ c. omega arith)
+    (λ c. omega arith)
+    (λ c. tt)
+    (λ c. tt)
     (λ c. tt))  -- returns-2

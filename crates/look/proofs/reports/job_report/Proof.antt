@@ -20,50 +20,50 @@ use Rattle.look.proofs.JobAnswers.{written, result_within, norm_shown, form_show
 use Rattle.look.proofs.reports.job_report.Statement.{statement}
 use Rattle.look.proofs.reports.job_report.Tie as tie
 
-form_written : (c : tie.After-prime-form) →
+form_written : (c : tie.After-prime_form-answer) →
     let s = c.before.before.before.before.before.before.before.before in
     let p = s.args.job ∷ [] in
-    Writes (one_plan s.args.image.now p) (prime_form (table_in s.args.image.now) p) (replicate 512 0) c.prime_form.result c.prime_form.new.1.1.0
-form_written c = written _ (search rules) _ c.prime_form.ensures
+    Writes (one_plan s.args.image.now p) (prime_form (table_in s.args.image.now) p) (replicate 512 0) c.prime_form-answer.result c.prime_form-answer.new.out
+form_written c = written _ (search rules) _ c.prime_form-answer.ensures
 
 -- the size that the code takes of the form
-size_is : (c : tie.After-result-in) → c.result_in.result ≡ result_in c.before.before.before.prime_form.result
+size_is : (c : tie.After-result_in-size) → c.result_in-size.result ≡ result_in c.before.before.before.prime_form-answer.result
 size_is c =
-    let f = c.before.before.before.prime_form in
-    c.result_in.ensures ∙ ap result_in (to_z-of_z w32 f.result (record { sfits = f.type_inv }))
+    let f = c.before.before.before.prime_form-answer in
+    c.result_in-size.ensures ∙ ap result_in (to_z-of_z w32 f.result (record { sfits = f.type_inv }))
 
-size_fits : (c : tie.After-result-in) → c.result_in.result ≤ 512
+size_fits : (c : tie.After-result_in-size) → c.result_in-size.result ≤ 512
 size_fits c = omega (arith, size_is c, result_within _ _ _ _ _ (form_written c.before.before.before), length-replicate {A = ℕ} 512 0)
 
-norm_is : (c : tie.After-result-in2) →
+norm_is : (c : tie.After-result_in) →
     let s = c.before.before.before.before.before.before.before.before.before.before.before.before in
     let p = s.args.job ∷ [] in
-    c.result_in2.result ≡ result_in (signed (one_plan s.args.image.now p) (norm (table_in s.args.image.now) p))
+    c.result_in.result ≡ result_in (signed (one_plan s.args.image.now p) (norm (table_in s.args.image.now) p))
 norm_is c =
-    let n = c.before.before.before.before.before.before.before.before.plan_norm in
-    c.result_in2.ensures ∙ ap result_in (to_z-of_z w32 n.result (record { sfits = n.type_inv }) ∙ n.ensures)
+    let n = c.before.before.before.before.before.before.before.before.plan_norm-norm in
+    c.result_in.ensures ∙ ap result_in (to_z-of_z w32 n.result (record { sfits = n.type_inv }) ∙ n.ensures)
 
-part_job_line_end : tie.Need-slice-bounds-job-line-end
+part_job_line_end : tie.Need-slice_bounds-job_line-end
 part_job_line_end c =
-    omega (arith, size_fits c.before.before, c.before.before.before.before.before.prime_form.auto.1.1.0)
+    omega (arith, size_fits c.before, c.before.before.before.before.prime_form-answer.auto.out)
 
-job_line_requires : tie.Need-job-line-requires
+job_line_requires : tie.Need-job_line-requires
 job_line_requires c κs =
-    let r = c.before.before.before.before in
-    let f = c.before.before.before.before.before.before.before.prime_form.new.1.1.0 in
-    omega (arith, size_fits r, length-take (r.result_in.result - 0) f, c.before.before.before.before.before.before.before.before.before.before.before.before.before.before.before.requires)
+    let r = c.before.before.before in
+    let f = c.before.before.before.before.before.before.prime_form-answer.new.out in
+    omega (arith, size_fits r, length-take (r.result_in-size.result - 0) f, c.before.before.before.before.before.before.before.before.before.before.before.before.before.before.requires)
 
 returns : tie.Need-returns
 returns c =
     let l = c.before.before.job_line in
     let r = c.before.before.before.before.before.before.before in
-    let s = c.before.before.before.before.before.before.before.before.before.before.before.before.before.before.before.before.before.before in
+    let s = c.before.before.before.before.before.before.before.before.before.before.before.before.before.before.before.before.before in
     record {
       within = l.ensures.within;
       put = λ a h.
           put_as
-          (ap₂ (job_line s.args.job) (norm_is c.before.before.before.before.before.before ∙ norm_shown s.args.image.now s.args.job a h)
-          (ap (λ (k : ℕ). take k r.before.before.before.prime_form.new.1.1.0) (sub-zero r.result_in.result ∙ size_is r)
+          (ap₂ (job_line s.args.job) (norm_is c.before.before.before.before.before ∙ norm_shown s.args.image.now s.args.job a h)
+          (ap (λ (k : ℕ). take k r.before.before.prime_form-answer.new.out) (sub-zero r.result_in-size.result ∙ size_is r)
           ∙ form_shown s.args.image.now s.args.job a h (replicate 512 0) _ _ (length-replicate {A = ℕ} 512 0) (form_written r.before.before.before)))
           l.ensures.put;
     }
@@ -72,17 +72,17 @@ pub job_report_spec : {M : Type 1} → statement M
 job_report_spec =
     tie.close
     (tie.spec
-    (λ c. search rules)  -- slice-aggregate-plan-norm
-    (λ c κs. search rules)  -- plan-norm-requires
-    (λ c. search rules)  -- slice-aggregate-prime-form
-    (λ c. search rules)  -- slice-aggregate-prime-form-2
-    (λ c. search rules)  -- slice-aggregate-prime-form-3
-    (λ c κs. search rules)  -- prime-form-requires
-    (λ c κs. search rules)  -- result-in-requires
-    (λ c κs. search rules)  -- result-in-requires-2
-    (λ c. search rules)  -- sub-job-line
-    (λ c. search rules)  -- part-job-line-start
+    (λ c. search rules)
+    (λ c κs. search rules)
+    (λ c. search rules)
+    (λ c. search rules)
+    (λ c. search rules)
+    (λ c κs. search rules)
+    (λ c κs. search rules)
+    (λ c κs. search rules)
+    (λ c. search rules)
+    (λ c. search rules)
     part_job_line_end
     job_line_requires
-    (λ c. search rules)  -- same-length
+    (λ c. search rules)
     returns)

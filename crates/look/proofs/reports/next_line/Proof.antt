@@ -11,69 +11,69 @@ use Rattle.look.proofs.reports.next_line.Statement.{statement}
 use Rattle.look.proofs.reports.next_line.Tie as tie
 
 -- whole plans are no longer than their parts
-short : (c : tie.After-known-told2) → (c.before.before.before.before.left.given.0.0 ≤ 4096) × (c.before.right.given.0.0 ≤ 4096)
+short : (c : tie.In-Plan-right) → (c.before.before.before.before.left-1.given.0.0 ≤ 4096) × (c.before.right-1.given.0.0 ≤ 4096)
 short c =
     let r = c.before in
     let l = r.before.before.before in
-    let p = l.before.before.before.before.read_pair.ensures in
-    (plan_short _ _ l.left.given.1 p.left_read, plan_short _ _ r.right.given.1 p.right_read)
+    let p = l.before.before.before.before.read_pair-read.ensures in
+    (plan_short _ _ l.left-1.given.1 p.left_read, plan_short _ _ r.right-1.given.1 p.right_read)
 
-returns : tie.Need-returns
+returns : tie.Need-returns-in_default
 returns c =
     let m = c.before.before.before.before in
-    let p = m.before.before.before.read_pair in
-    ends_left _ _ _ p.result.left p.result.right p.ensures m.match.keys2 c.before.before.end_line.ensures
+    let p = m.before.before.before.read_pair-read in
+    ends_left _ _ _ p.result.left p.result.right p.ensures m.match.keys2 c.before.before.end_line-size.ensures
 
-returns_2 : tie.Need-returns-2
+returns_2 : tie.Need-returns-in_default-right
 returns_2 c =
     let e = c.before.before.before.before in
     let l = e.before.before.before in
-    let p = l.before.before.before.before.read_pair in
-    ends_right _ _ _ p.result.left p.result.right p.ensures _ l.left.given.1 e.before.match2.keys2
-    (line_as (ap end_line e.right_end.ensures) c.before.before.end_line2.ensures)
+    let p = l.before.before.before.before.read_pair-read in
+    ends_right _ _ _ p.result.left p.result.right p.ensures _ l.left-1.given.1 e.before.in_default-right.keys2
+    (line_as (ap end_line e.right_end.ensures) c.before.before.end_line-size-in_default-right.ensures)
 
-add_end : tie.Need-overflow-add-end
+add_end : tie.Need-overflow_add-end
 add_end c = record { fits = omega (arith, (short c).0) }
 
-add_stop : tie.Need-overflow-add-stop
+add_stop : tie.Need-overflow_add-stop
 add_stop c = record { fits = omega (arith, (short c).1) }
 
-part_pair_report_end : tie.Need-slice-bounds-pair-report-end
+part_pair_report_end : tie.Need-slice_bounds-pair_report-end
 part_pair_report_end c = let h = short c.before in search rules
 
-part_pair_report_end_2 : tie.Need-slice-bounds-pair-report-end-2
+part_pair_report_end_2 : tie.Need-slice_bounds-pair_report-end-2
 part_pair_report_end_2 c = let h = short c.before.before in search rules
 
-returns_3 : tie.Need-returns-3
+returns_3 : tie.Need-returns
 returns_3 c =
     let r = c.before.before.before.before.before.before.before.before in
     let l = r.before.before.before in
-    let p = l.before.before.before.before.read_pair in
-    both_whole _ _ _ p.result.left p.result.right p.ensures _ _ l.left.given.1 r.right.given.1 c.before.before.pair_report.ensures
+    let p = l.before.before.before.before.read_pair-read in
+    both_whole _ _ _ p.result.left p.result.right p.ensures _ _ l.left-1.given.1 r.right-1.given.1 c.before.before.pair_report-size.ensures
 
 pub next_line_spec : {M : Type 1} → statement M
 next_line_spec = tie.close (tie.spec
-    (λ c κs. search rules)  -- read-pair-requires
-    (λ c. search rules)  -- enum-known-left
-    (λ c κs. search rules)  -- end-line-requires
-    (λ c. search rules)  -- same-length
-    (λ c. search rules)  -- same-length-2
+    (λ c κs. search rules)
+    (λ c. search rules)
+    (λ c κs. search rules)
+    (λ c. search rules)
+    (λ c. search rules)
     returns
-    (λ c. search rules)  -- enum-known-right
-    (λ c κs. search rules)  -- right-end-requires
-    (λ c κs. search rules)  -- end-line-requires-2
-    (λ c. search rules)  -- same-length-3
-    (λ c. search rules)  -- same-length-4
+    (λ c. search rules)
+    (λ c κs. search rules)
+    (λ c κs. search rules)
+    (λ c. search rules)
+    (λ c. search rules)
     returns_2
     add_end
     add_stop
-    (λ c. search rules)  -- sub-pair-report
-    (λ c. search rules)  -- part-pair-report-start
+    (λ c. search rules)
+    (λ c. search rules)
     part_pair_report_end
-    (λ c. search rules)  -- sub-pair-report-2
-    (λ c. search rules)  -- part-pair-report-start-2
+    (λ c. search rules)
+    (λ c. search rules)
     part_pair_report_end_2
-    (λ c κs. search rules)  -- pair-report-requires
-    (λ c. search rules)  -- same-length-5
-    (λ c. search rules)  -- same-length-6
+    (λ c κs. search rules)
+    (λ c. search rules)
+    (λ c. search rules)
     returns_3)

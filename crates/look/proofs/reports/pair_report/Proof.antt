@@ -13,16 +13,16 @@ returns : tie.Need-returns
 returns c =
     let m = c.before.before.before.before.before in
     let s = c.before.before.before.before.before.before.before.before.before.before.before in
-    subst (λ (z : ℤ). IsLine (pair_line s.args.pair z) s.args.line.now c.before.before.pair_line.result c.before.before.pair_line.new.1.1.0)
-    (to_z-of_z w32 m.compare.result (record { sfits = m.compare.type_inv }) ∙ given _ (search rules) _ _ m.compare.ensures)
+    subst (λ (z : ℤ). IsLine (pair_line s.args.pair z) s.args.line.now c.before.before.pair_line.result c.before.before.pair_line.new.line)
+    (to_z-of_z w32 m.compare-answer.result (record { sfits = m.compare-answer.type_inv }) ∙ given _ (search rules) _ _ m.compare-answer.ensures)
     c.before.before.pair_line.ensures
 
 pub pair_report_spec : {M : Type 1} → statement M
 pair_report_spec =
     tie.close
     (tie.spec
-    (λ c. search rules)  -- slice-aggregate-compare
-    (λ c κs. search rules)  -- compare-requires
-    (λ c κs. search rules)  -- pair-line-requires
-    (λ c. search rules)  -- same-length
+    (λ c. search rules)
+    (λ c κs. search rules)
+    (λ c κs. search rules)
+    (λ c. search rules)
     returns)

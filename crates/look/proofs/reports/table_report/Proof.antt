@@ -5,25 +5,25 @@ use Rattle.look.proofs.FirstLine.{refused_first, table_first}
 use Rattle.look.proofs.reports.table_report.Statement.{statement}
 use Rattle.look.proofs.reports.table_report.Tie as tie
 
-returns : tie.Need-returns
-returns c = refused_first _ c.before.before.before.before.before.load.ensures c.before.before.before.before.if1.true c.before.before.refused_line.ensures
+returns : tie.Need-returns-then-refusal-ne0
+returns c = refused_first _ c.before.before.before.before.before.load-table.ensures c.before.before.before.before.if-refusal-ne0.true c.before.before.refused_line-size.ensures
 
-cast_t17 : tie.Need-overflow-cast-t17
-cast_t17 c = omega (arith, c.before.before.before.before.before.before.load.ensures.few)
+cast_t17 : tie.Need-overflow_cast-result
+cast_t17 c = omega (arith, c.before.before.before.before.before.before.load-table.ensures.few)
 
-returns_2 : tie.Need-returns-2
-returns_2 c = table_first _ c.before.before.before.before.before.before.load.ensures c.before.before.before.before.before.if1.false c.before.before.table_line.ensures
+returns_2 : tie.Need-returns
+returns_2 c = table_first _ c.before.before.before.before.before.before.load-table.ensures c.before.before.before.before.before.if-refusal-ne0.false c.before.before.table_line-size.ensures
 
 pub table_report_spec : {M : Type 1} → statement M
 table_report_spec =
     tie.close
     (tie.spec
-    (λ c κs. search rules)  -- load-requires
-    (λ c. search rules)  -- cast-refused-line
-    (λ c κs. search rules)  -- refused-line-requires
-    (λ c. search rules)  -- same-length
+    (λ c κs. search rules)
+    (λ c. search rules)
+    (λ c κs. search rules)
+    (λ c. search rules)
     returns
-    (λ c κs. search rules)  -- table-line-requires
+    (λ c κs. search rules)
     cast_t17
-    (λ c. search rules)  -- same-length-2
+    (λ c. search rules)
     returns_2)
