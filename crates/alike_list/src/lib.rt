@@ -2,6 +2,7 @@
 // The arrays are always full, so that all 32 places are compared at once: behind the last from-move the first one stands again, and behind
 // the last to-move stand zeros.
 #![tactic(auto)]
+
 ghost use Rattle.std.specs.Prelude.{◌≡◌, ◌+◌, ◌<◌, length, take};
 ghost use Rattle.area.specs.Numbers.{number_at};
 ghost use Rattle.rules.specs.Lists.{IsMove};

@@ -1,5 +1,6 @@
 // What every call gives back: a refusal as its number made negative, or a result.
 #![tactic(auto)]
+
 ghost use Rattle.std.specs.Prelude.{◌≡◌, ◌<◌, pos};
 ghost use Rattle.answer.specs.Refusals as refusals;
 ghost use Rattle.answer.specs.Answer.{signed};

@@ -1,6 +1,7 @@
 // Whether the rules of two jobs answer each other: those of a job Y, and those of a job X with a tail behind it. Two rules agree by some
 // rows if their moves are equal and what they leave is equal by the rows: by the new rows if the norm falls, else by the old ones.
 #![tactic(auto)]
+
 ghost use Rattle.std.specs.Prelude.{◌≡◌, true, List, ℕ, ◌≤◌, ltb, get_or, drop};
 ghost use Rattle.std.proofs.Math.Seq.{slice};
 ghost use Rattle.bpa.specs.Method.{expand};

@@ -1,5 +1,6 @@
 // Leaves over byte slices.
 #![tactic(auto)]
+
 ghost use Rattle.std.specs.Prelude.{◌≡◌, [], ◌∷◌, ◌+◌, ◌-◌, ◌≤◌, ◌<◌, length, replicate};
 ghost use Rattle.area.specs.Areas.{IsByte, put, IsPut};
 ghost use Rattle.area.specs.Numbers.{number_at, low_first, IsNumber};

@@ -2,16 +2,15 @@
 use mathlib.Core.Path.{◌≡◌, refl, sym, ◌∙◌, subst}
 use mathlib.Core.Bool.{true}
 use mathlib.Core.List.{List, [], ◌∷◌}
-use mathlib.Core.Logic.{◌↔◌}
 use Prim.Native.Nat.{ℕ, ◌≤◌, ◌<◌}
 use lib.ListN.{length, get_or}
 use Rattle.bpa.specs.Plans.{Table, over}
-use Rattle.bpa.specs.Norms.{sum_of, norms, norm, Good}
+use Rattle.bpa.specs.Norms.{norms, norm, Good}
 use Rattle.bpa.specs.Bisimilar.{Bisimilar, Form}
 use Rattle.bpa.specs.Method.{prime_form}
-use Rattle.bpa.proofs.Answers.{form_exists, form_single, forms_exact, same_norm}
-use Rattle.catalogue.specs.Catalogue.{FormOf, Entry, Rising, Catalogue, weights, rows_down, rows_of, catalogue}
-use Rattle.catalogue.proofs.WeightedRows.{Weighs, listed_weighs, weighs_listed, listed_rise}
+use Rattle.bpa.proofs.Answers.{form_exists, forms_exact, same_norm}
+use Rattle.catalogue.specs.Catalogue.{FormOf, Entry, Catalogue, weights, rows_down, rows_of, catalogue}
+use Rattle.catalogue.proofs.WeightedRows.{listed_weighs, weighs_listed, listed_rise}
 use Rattle.catalogue.proofs.RowCounts.{most_rows, listed_few}
 use Rattle.catalogue.proofs.LowestWeights.{weights_long, weighs_form, form_weighs, lowest_form}
 use Rattle.catalogue.proofs.RisingRows.{rising_once, rising_only}

@@ -1,6 +1,7 @@
 // Two plans compared as the rows of their jobs write them out. What the plans begin with in common is passed over, the rest of the right
 // one is written out in the second half of the area, behind the rows, and the rows of the left one are compared with what stands there.
 #![tactic(auto)]
+
 ghost use Rattle.std.specs.Prelude.{◌≡◌, ◌++◌, ◌+◌, ◌-◌, ◌≤◌, length, take, drop};
 ghost use Rattle.area.specs.Areas.{put};
 ghost use Rattle.bpa.specs.Method.{expand, first_difference};

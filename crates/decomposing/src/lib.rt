@@ -1,5 +1,6 @@
 // The new row of a job: an earlier job that is prime in the new rows and fits with its tail, or the job alone.
 #![tactic(auto)]
+
 ghost use Rattle.std.specs.Prelude.{◌≡◌, length, get_or};
 ghost use Rattle.rows.specs.Region.{row, old_half, new_half};
 ghost use Rattle.facts.specs.Facts.{order_in};

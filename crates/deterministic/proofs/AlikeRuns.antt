@@ -2,7 +2,7 @@
 -- is answered by one of the other. Assumes nothing.
 use mathlib.Core.Path.{sym, ◌∙◌, subst}
 use mathlib.Core.List.{List, []}
-use mathlib.Core.Logic.{◌↔◌, ◌⊎◌, inl, inr, ⊎_elim}
+use mathlib.Core.Logic.{◌↔◌, inl, inr, ⊎_elim}
 use Prim.Native.Nat.{ℕ}
 use Rattle.bpa.specs.Plans.{Table, Runs}
 use Rattle.alike.specs.Alike.{Pair, replaced}

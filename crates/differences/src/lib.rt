@@ -1,5 +1,6 @@
 // The leftmost difference of two plans that are written out by their rows.
 #![tactic(auto)]
+
 ghost use Rattle.std.specs.Prelude.{◌≡◌, ◌++◌, ◌≤◌, ◌<◌, length, get_or};
 ghost use Rattle.bpa.specs.Method.{first_difference, expand};
 ghost use Rattle.rows.specs.Region.{row, Comparable};

@@ -1,5 +1,6 @@
 // Whether what two rules leave is equal by rows: by the new ones if the norm falls, else by the old ones.
 #![tactic(auto)]
+
 ghost use Rattle.std.specs.Prelude.{ℕ, ◌<◌, drop};
 ghost use Rattle.std.proofs.Math.Seq.{slice};
 ghost use Rattle.rules.specs.Places.{rule_count};

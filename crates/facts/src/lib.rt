@@ -1,6 +1,7 @@
 // What the rounds look up about the jobs of a table, in one array of five columns and the number of jobs: 24 norms, 24 marks, for each
 // job the place of its first rule, the place of its first norm-lowering rule, then the jobs in order, and the number of jobs at 120.
 #![tactic(auto)]
+
 ghost use Rattle.std.specs.Prelude.{◌≡◌, ◌+◌, ◌<◌, length, get_or};
 ghost use Rattle.prepare.specs.Prepared.{Normed, RowNorms};
 ghost use Rattle.facts.specs.Facts.{norms_in, order_in, jobs_in, Gathered, FactsOf};

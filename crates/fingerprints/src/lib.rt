@@ -1,6 +1,7 @@
 // Fingerprints of rows, as Karp and Rabin's: unequal ones show that two rows are unequal, before they are looked at place by place. Those
 // of the jobs' rows and of what the rules leave stand in one array: 24 values, 24 powers, and 252 numbers for rules, 0 for none.
 #![tactic(auto)]
+
 ghost use Rattle.std.specs.Prelude.{◌≡◌, ◌<◌};
 ghost use Rattle.rules.specs.Lists.{GoodList};
 ghost use Rattle.rows.specs.Region.{row, Within};

@@ -1,5 +1,6 @@
 // Plans compared as the rows of their jobs write them out. By prime rows these are prime forms.
 #![tactic(auto)]
+
 ghost use Rattle.std.specs.Prelude.{◌++◌};
 ghost use Rattle.bpa.specs.Method.{expand};
 ghost use Rattle.rows.specs.Region.{row, Comparable};

@@ -1,5 +1,6 @@
 // An area of two halves of 24 rows of 512 bytes, the old rows and the new ones: the first rows, and new rows that become the old ones.
 #![tactic(auto)]
+
 ghost use Rattle.std.specs.Prelude.{◌≡◌, ◌≤◌, ◌<◌, length, replicate};
 ghost use Rattle.facts.specs.Facts.{Tables};
 ghost use Rattle.halves.specs.HalvesWritten.{FirstIn, RowKept, CanKeep, Kept};

@@ -1,5 +1,6 @@
 // Check 4: job count, rule count, number of the block, number of blocks.
 #![tactic(auto)]
+
 ghost use Rattle.std.specs.Prelude.{◌≡◌, ◌≤◌, ◌<◌, length};
 ghost use Rattle.image.specs.Image.{rules_fit, head_of};
 

@@ -1,5 +1,6 @@
 // Images: their definitions and laws, and the functions over them that checks and writer share.
 #![tactic(auto)]
+
 ghost use Rattle.std.specs.Prelude.{◌≡◌, ◌≤◌, ◌<◌, length};
 ghost use Rattle.image.specs.Image.{byte_sum, checksum};
 

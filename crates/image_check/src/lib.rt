@@ -1,5 +1,6 @@
 // The checks of an image and of a list of 8-byte rules: refusals 2 to 5.
 #![tactic(auto)]
+
 ghost use Rattle.std.specs.Prelude.{◌≡◌, true, ◌*◌, ◌≤◌, ◌<◌, eqb, length};
 ghost use Rattle.area.specs.Numbers.{number_at};
 ghost use Rattle.image.specs.Image.{checksum, head_good, each_block, layout_refusal};

@@ -1,5 +1,6 @@
 // The reader of images: a state that takes one block after the other.
 #![tactic(auto)]
+
 ghost use Rattle.std.specs.Prelude.{◌≡◌, ◌+◌, length, get_or};
 ghost use Rattle.image.specs.Image.{layout_refusal};
 ghost use Rattle.image.specs.Reading.{Takes, Took, HoldsTable};

@@ -1,5 +1,6 @@
 // The writer of images: each block is filled in its own part of the output.
 #![tactic(auto)]
+
 ghost use Rattle.std.specs.Prelude.{◌≡◌, ◌+◌, ◌≤◌, ◌<◌, min, length};
 ghost use Rattle.area.specs.Areas.{IsPut};
 ghost use Rattle.image.specs.Writing.{written, list_refusal};

@@ -1,5 +1,6 @@
 // A second table joined to the one that a call holds: its jobs are numbered on from the first's.
 #![tactic(auto)]
+
 ghost use Rattle.std.specs.Prelude.{◌≡◌, true, cond, ◌+◌, ◌-◌, ◌≤◌, ◌<◌, length};
 ghost use Rattle.area.specs.Areas as areas;
 ghost use Rattle.bpa.specs.Plans.{all_below};

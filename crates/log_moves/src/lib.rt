@@ -1,5 +1,6 @@
 // Logs: refusal 11, and the moves of a log, each as what it counts as by an alike list.
 #![tactic(auto)]
+
 ghost use Rattle.std.specs.Prelude.{◌≡◌, ◌≤◌, length};
 ghost use Rattle.alike.specs.Alike.{replace};
 ghost use Rattle.alike_list.specs.AlikeLists.{alike_pairs};

@@ -1,5 +1,6 @@
 // The rule of a job by which the n-th move goes that a plan shows.
 #![tactic(auto)]
+
 ghost use Rattle.rules.specs.Lists.{GoodList};
 ghost use Rattle.moves.specs.Moves.{IsNth};
 

@@ -1,5 +1,6 @@
 // The norms of the jobs of a table.
 #![tactic(auto)]
+
 ghost use Rattle.std.specs.Prelude.{◌≡◌, true, ℕ, ◌≤◌, ◌<◌, min, length, get_or};
 ghost use Rattle.bpa.specs.Plans.{all_below};
 ghost use Rattle.bpa.specs.Norms.{sum_of, lesser};

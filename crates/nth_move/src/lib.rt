@@ -1,5 +1,6 @@
 // The n-th move of a plan.
 #![tactic(auto)]
+
 ghost use Rattle.std.specs.Prelude.{◌≤◌, length};
 ghost use Rattle.rules.specs.Places.{table_of};
 ghost use Rattle.rules.specs.Lists.{GoodList};

@@ -2,6 +2,7 @@
 // a tree for each of 64 remainders of a job's moves; a rule that begins as a kept one must have its row. A way down a tree goes by the digits of a
 // move, so that it has at most eleven rules, whatever the table.
 #![tactic(auto)]
+
 ghost use Rattle.std.specs.Prelude.{◌≡◌, ◌≤◌, ◌<◌};
 ghost use Rattle.rules.specs.Places.{rule_at, rule_count, table_of};
 ghost use Rattle.rules.specs.Lists.{GoodList};

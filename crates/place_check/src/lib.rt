@@ -1,5 +1,6 @@
 // Check 5: the places of a block or of a list of rules.
 #![tactic(auto)]
+
 ghost use Rattle.std.specs.Prelude.{◌≡◌, ◌*◌, ◌≤◌, length};
 ghost use Rattle.rules.specs.Places.{all_zero, place_good, places_good};
 ghost use Rattle.image.specs.Image.{rules_in_block, places_of_block};

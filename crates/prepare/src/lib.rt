@@ -1,6 +1,7 @@
 // What is worked out once from a list of rules and the norms of its jobs: the norm of each rule's row, the first norm-lowering rule of
 // each job, and the rules of each job as a chain.
 #![tactic(auto)]
+
 ghost use Rattle.std.specs.Prelude.{◌≡◌, ℕ, ◌<◌, length};
 ghost use Rattle.rules.specs.Lists.{GoodList};
 ghost use Rattle.repeated.specs.Repeated.{RepeatsMarked};

@@ -1,5 +1,6 @@
 // Decompositions, refined in rounds until no prime is new. The area has two halves of 24 rows of 512 bytes: the old rows and the new ones.
 #![tactic(auto)]
+
 ghost use Rattle.std.specs.Prelude.{◌≡◌, ◌≤◌, length};
 ghost use Rattle.bpa.specs.Norms.{norms, Good};
 ghost use Rattle.rules.specs.Places.{rule_count};

@@ -1,5 +1,6 @@
 // Refusals 6 to 9, by the array of a table's norms.
 #![tactic(auto)]
+
 ghost use Rattle.std.specs.Prelude.{◌≡◌, true, ◌≤◌, take};
 ghost use Rattle.bpa.specs.Plans as plans;
 ghost use Rattle.answer.specs.Refusals.{or_else};

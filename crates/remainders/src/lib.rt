@@ -1,5 +1,6 @@
 // Remainders: what a rule leaves, with the jobs that wait behind it. Their norms are looked up.
 #![tactic(auto)]
+
 ghost use Rattle.std.specs.Prelude.{List, ℕ, ◌<◌};
 ghost use Rattle.rules.specs.Places.{rule_count};
 ghost use Rattle.remainders.specs.Remainders.{LooksUp, LookedUp};

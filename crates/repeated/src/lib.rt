@@ -1,6 +1,7 @@
 // Rules that are written twice. Whatever a rule does, an earlier one that is equal to it does too, so the rounds need not look at it, and its
 // move is shown already.
 #![tactic(auto)]
+
 ghost use Rattle.std.specs.Prelude.{◌≡◌, ◌≤◌, ◌<◌, length};
 ghost use Rattle.rules.specs.Places.{rule_count};
 ghost use Rattle.repeated.specs.Repeated.{RepeatsMarked, place_at, IsBucket, Stands};

@@ -1,5 +1,6 @@
 // The table that a call holds with its moves replaced by an alike list.
 #![tactic(auto)]
+
 ghost use Rattle.std.specs.Prelude.{◌≡◌, List, ◌++◌, ℕ, ◌*◌, ◌≤◌, length, drop};
 ghost use Rattle.bpa.specs.Plans.{Table};
 ghost use Rattle.answer.specs.Refusals as refusals;

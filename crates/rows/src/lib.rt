@@ -1,5 +1,6 @@
 // Rows of jobs, 512 bytes for each of up to 24 jobs.
 #![tactic(auto)]
+
 pub mod expanding;
 
 ghost use Rattle.std.specs.Prelude.{◌≡◌, ◌∷◌, [], ◌<◌, length, get_or};

@@ -1,6 +1,7 @@
 // Whether two rules may agree, by their moves and by norms and fingerprints of what they leave: a rule of a job Y, and one of a job X with a tail
 // behind it.
 #![tactic(auto)]
+
 ghost use Rattle.std.specs.Prelude.{◌≡◌, true, List, ℕ, ◌<◌};
 ghost use Rattle.rules.specs.Places.{rule_count};
 ghost use Rattle.remainders.specs.Remainders.{LooksUp};

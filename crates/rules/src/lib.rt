@@ -1,5 +1,6 @@
 // Rules as 8 bytes each: one function for each part of a rule.
 #![tactic(auto)]
+
 ghost use Rattle.std.specs.Prelude.{◌≡◌, not, ◌/◌, ◌%◌, ◌<◌, eqb, length};
 ghost use Rattle.area.specs.Areas.{IsByte};
 ghost use Rattle.bpa.specs.Plans.{all_below};

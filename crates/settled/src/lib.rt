@@ -1,6 +1,7 @@
 // Jobs whose new row is their old row, without another look: those that are prime already, and those that keep what they were
 // decomposed by, none of the jobs in the rules of either having another row than the round before.
 #![tactic(auto)]
+
 ghost use Rattle.std.specs.Prelude.{◌≡◌, true, ℕ, ◌<◌, length, get_or};
 ghost use Rattle.rows.specs.Region.{row, old_half, new_half};
 ghost use Rattle.settled.specs.Settled.{Unmoved, Untouched, ChainOf, Settling, Settles};

@@ -1,5 +1,6 @@
 // A table as a call holds it: its rules as bytes and the norms of its jobs, or the refusal. Each call about plans begins here.
 #![tactic(auto)]
+
 ghost use Rattle.std.specs.Prelude.{◌≡◌, ◌≤◌, length, take};
 ghost use Rattle.rules.specs.Places.{table_of};
 ghost use Rattle.refusal.specs.Refusals.{table_refusal};

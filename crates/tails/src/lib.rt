@@ -1,5 +1,6 @@
 // The tail of a job in a row: the end of the row that is left behind a beginning of a given norm.
 #![tactic(auto)]
+
 ghost use Rattle.std.specs.Prelude.{◌≡◌, true};
 ghost use Rattle.bpa.specs.Plans.{all_below};
 ghost use Rattle.facts.specs.Facts.{norms_in};

@@ -1,5 +1,6 @@
 // Words: numbers of eight bytes, low byte first.
 #![tactic(auto)]
+
 ghost use Rattle.std.specs.Prelude.{◌≡◌, ◌+◌, ◌≤◌, length};
 ghost use Rattle.area.specs.Areas.{put};
 ghost use Rattle.words.specs.Words.{word_at, word_bytes};

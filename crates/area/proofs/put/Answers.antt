@@ -1,5 +1,5 @@
 -- `area::put` meets its contract: the part between the place and the end of the bytes is replaced by them. Assumes nothing.
-use Rattle.std.proofs.Common.{◌≡◌, ◌+◌, ◌-◌, ℕ, List, ◌++◌, take, drop, length, refl, ap, ◌∙◌}
+use Rattle.std.proofs.Common.{◌+◌, ◌-◌, ℕ, List, ◌++◌, take, drop, length, refl, ap, ◌∙◌}
 use Rattle.area.proofs.Puts.{put_part}
 use Rattle.area.proofs.put.Goals as goal
 

@@ -6,7 +6,7 @@ use lib.Dec.{eqb}
 use lib.ListN.{length, get_or}
 use borrow.Author.Tests.{le-leb, lt-leb}
 use Rattle.area.specs.Numbers.{number_at}
-use Rattle.image.specs.Image.{checksum, block, sum_good, head_good, block_good, head_of, places_of_block}
+use Rattle.image.specs.Image.{checksum, block, sum_good, head_of, places_of_block}
 use Rattle.image.specs.Checks.{block_check}
 use Rattle.image.proofs.Blocks.{block_part, block_length, head_is, places_are, rules_few, blocks_are}
 use borrow.Author.Rules.{rules}

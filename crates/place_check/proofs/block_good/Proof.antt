@@ -6,7 +6,7 @@ use Prim.Native.Nat.{ℕ, ◌+◌, ◌*◌, ◌-◌}
 use lib.ListN.{length, get_or, take, drop, length-take, length-drop}
 use lib.Seq.{take_all}
 use Rattle.rules.specs.Places.{all_zero, places_good}
-use Rattle.image.specs.Image.{rules_in_block, block, places_of_block}
+use Rattle.image.specs.Image.{rules_in_block, places_of_block}
 use borrow.Author.Rules.{rules}
 use native.Mathlib.Omega.{arith}
 use Rattle.place_check.proofs.block_good.Statement.{statement}
