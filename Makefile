@@ -68,17 +68,18 @@ ready: $(ARCHIVE) $(PLANLOOK)
 
 # ---- the library and the program, proved and built by rt
 
-SOURCES := crates.txt $(shell find crates -name '*.rt' -o -name '*.antt')
+SOURCES := crates.txt $(shell find crates -name out -prune -o \( -name '*.rt' -o -name '*.antt' \) -print)
 
 target/staticlib/libgindrazoma.a: $(SOURCES)
-	@tools/progress.sh gindrazoma build/log/gindrazoma.log rt staticlib gindrazoma
+	@tools/progress.sh gindrazoma_c build/log/gindrazoma.log rt lib gindrazoma_c
+	@mkdir -p $(@D) && cp crates/gindrazoma_c/out/libgindrazoma_c.a $@
 
 target/bin/planlook: $(SOURCES)
-	@tools/progress.sh planlook build/log/planlook.log rt check planlook
-	@touch $@ # rt leaves a program as it is if nothing of it has changed
+	@tools/progress.sh planlook build/log/planlook.log sh -c 'rt run planlook </dev/null'
+	@mkdir -p $(@D) && cp crates/planlook/out/planlook $@
 
 check-proofs:
-	rt ci
+	@tests/proofs.sh
 
 # ---- C
 

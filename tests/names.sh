@@ -4,7 +4,7 @@
 set -u
 export LC_ALL=C
 header=include/gindrazoma.h
-source=crates/gindrazoma/src/lib.rt
+source=crates/gindrazoma_c/src/lib.rt
 page=man/gindrazoma.3
 raw=rust/gindrazoma/src/raw.rs
 refusals=rust/gindrazoma/src/refusal.rs
@@ -137,20 +137,25 @@ for manual in man/*; do
     version "$manual" "$work/title"
 done
 
-# ---- promises: each statement is a field of the record that the gate proves, its term has its name, and docs/PROOFS.md has it
+# ---- promises: each statement is a field of the record that the gate proves, its term has its name in small letters, and docs/PROOFS.md has it
+
+# Names of types as those of their terms: ImageBack as image_back.
+small() {
+    sed 's/\([a-z0-9]\)\([A-Z]\)/\1_\2/g' | tr '[:upper:]' '[:lower:]'
+}
 
 promises=crates/promises
 for file in "$promises"/specs/*.antt; do
     module=$(basename "$file" .antt | tr '[:upper:]' '[:lower:]')
-    sed -n "s/^unfoldable pub \\([A-Z][A-Za-z0-9-]*\\) : Type [01]\$/\\1 $module.\\1/p" "$file" |
-        awk '{ print tolower($1), $2 }'
-done >"$work/statements"
-sed -n 's/^  pub \([a-z0-9-]*\) : \([a-z]*\.[A-Z][A-Za-z0-9-]*\)$/\1 \2/p' "$promises/specs/EveryPromise.antt" >"$work/fields"
-awk '{ print $1 " = " tolower($2) ";" }' "$work/statements" >"$work/owed"
-sed -n 's/^  \([a-z0-9-]* = .*;\)$/\1/p' "$promises/proofs/EveryPromise.antt" >"$work/terms"
-sed 's/.*\.//' "$work/statements" >"$work/names"
+    sed -n "s/^unfoldable pub \\([A-Z][A-Za-z0-9]*\\) : Type [01]\$/\\1 $module/p" "$file"
+done >"$work/types"
+cut -d ' ' -f 1 "$work/types" >"$work/names"
+small <"$work/names" | paste -d ' ' - "$work/types" | awk '{ print $1, $3 "." $2 }' >"$work/statements"
+sed -n 's/^  pub \([a-z0-9_]*\) : \([a-z]*\.[A-Z][A-Za-z0-9]*\)$/\1 \2/p' "$promises/specs/EveryPromise.antt" >"$work/fields"
+small <"$work/names" | paste -d ' ' - "$work/types" | awk '{ print $1 " = " $3 "." $1 ";" }' >"$work/owed"
+sed -n 's/^  \([a-z0-9_]* = .*;\)$/\1/p' "$promises/proofs/EveryPromise.antt" >"$work/terms"
 awk '/^## The promises/ { inside = 1; next } /^## / { inside = 0 } inside && /^[|] `/' docs/PROOFS.md |
-    cut -d '|' -f 2 | tr -cs 'A-Za-z0-9-' '[\n*]' | sed '/^$/d' >"$work/document"
+    cut -d '|' -f 2 | tr -cs 'A-Za-z0-9' '[\n*]' | sed '/^$/d' >"$work/document"
 
 compare promises "their statements" "$work/statements" "the fields of EveryPromise" "$work/fields"
 compare promises "their statements" "$work/owed" "the terms" "$work/terms"

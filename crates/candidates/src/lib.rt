@@ -1,5 +1,6 @@
 // Jobs that may decompose another: which are likely to, what is asked about a pair of them, and the row in which their tails stand.
 #![tactic(auto)]
+
 ghost use Rattle.std.specs.Prelude.{◌≡◌, ◌<◌, length};
 ghost use Rattle.rows.specs.Region.{row, new_half};
 ghost use Rattle.rows.specs.Answers.{Decides};

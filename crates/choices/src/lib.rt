@@ -1,6 +1,7 @@
 // The rule by which the first shortest run of each job begins. Jobs are gone through by rising norm: a run by a rule is its move and then the
 // first runs of jobs of lower norm, which are known by then.
 #![tactic(auto)]
+
 ghost use Rattle.std.specs.Prelude.{◌≡◌, suc, length, get_or};
 ghost use Rattle.rules.specs.Places.{rule_at};
 ghost use Rattle.norm.specs.NormArrays.{GoodNorms};

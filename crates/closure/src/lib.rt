@@ -1,5 +1,6 @@
 // The jobs that are reached from some jobs: theirs, and those in the rows of each that is reached.
 #![tactic(auto)]
+
 ghost use Rattle.std.specs.Prelude.{◌<◌};
 ghost use Rattle.bits.specs.Bits.{JobBits};
 ghost use Rattle.closure.specs.Linked.{Linked, SmallRows};

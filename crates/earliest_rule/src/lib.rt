@@ -1,5 +1,6 @@
 // The rule of a job whose run is the earliest, by the chain of its rules.
 #![tactic(auto)]
+
 ghost use Rattle.std.specs.Prelude.{get_or};
 ghost use Rattle.rules.specs.Places.{rule_at};
 ghost use Rattle.norm.specs.NormArrays.{GoodNorms};

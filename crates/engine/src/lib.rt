@@ -2,6 +2,7 @@
 // The area that is worked in has two halves, of 24 rows of 512 bytes each: decompositions are refined from one to the other, and the
 // prime rows are left in the first.
 #![tactic(auto)]
+
 ghost use Rattle.std.specs.Prelude.{◌≡◌, true, ◌≤◌, length, take};
 ghost use Rattle.bpa.specs.Plans.{all_below};
 ghost use Rattle.bpa.specs.Norms.{sum_of};

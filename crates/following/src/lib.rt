@@ -1,6 +1,7 @@
 // A plan followed through a log, by what each of its jobs reaches: the cell of a job with so many moves left is 129 times the job plus the moves.
 // One set of numbers goes along the plan, so that each job is followed from all places at once.
 #![tactic(auto)]
+
 ghost use Rattle.std.specs.Prelude.{◌≡◌, true, ◌+◌, ◌*◌, ◌≤◌, ◌<◌, length};
 ghost use Rattle.bpa.specs.Plans.{all_below};
 ghost use Rattle.following.specs.Followed.{WordMore, JobMore, Follows};

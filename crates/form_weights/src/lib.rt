@@ -1,5 +1,6 @@
 // The weight of each job: its norm if it stands in prime forms, that is, if its prime row is the job alone, else 0.
 #![tactic(auto)]
+
 ghost use Rattle.std.specs.Prelude.{◌≡◌, ◌≤◌, ◌<◌, length, get_or};
 ghost use Rattle.rows.specs.Region.{row};
 ghost use Rattle.form_weights.specs.Weighed.{row_weight, Weighed};

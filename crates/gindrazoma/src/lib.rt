@@ -1,5 +1,6 @@
 // The calls of the service. A call gives back a result, or a refusal's number made negative; no call keeps anything for the next.
 #![tactic(auto)]
+
 ghost use Rattle.images.specs.ImageCalls.{Read, Written};
 ghost use Rattle.plans.specs.PlanCalls.{Normed, Moved, RanFirst};
 ghost use Rattle.sameness.specs.SamenessCalls.{Compared, ComparedAlike};
@@ -45,24 +46,14 @@ pub fn gindrazoma_nth_move(image: &[u8], plan: &[u8], index: u32, out: &mut [u8]
 }
 
 // 1 for two plans that are the same, 0 for two that are apart.
-pub fn gindrazoma_compare(
-    image: &[u8],
-    left: &[u8],
-    right: &[u8],
-    space: &mut [u8],
-) -> i32
+pub fn gindrazoma_compare(image: &[u8], left: &[u8], right: &[u8], space: &mut [u8]) -> i32
     ensures { Compared image.now left.now right.now space.old result space.new }
 {
     sameness::compare(image, left, right, space)
 }
 
 // The prime form of a plan, one byte a job.
-pub fn gindrazoma_prime_form(
-    image: &[u8],
-    plan: &[u8],
-    out: &mut [u8],
-    space: &mut [u8],
-) -> i32
+pub fn gindrazoma_prime_form(image: &[u8], plan: &[u8], out: &mut [u8], space: &mut [u8]) -> i32
     ensures { Formed image.now plan.now out.old space.old result out.new space.new }
 {
     prime_forms::prime_form(image, plan, out, space)

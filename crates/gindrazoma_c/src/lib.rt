@@ -1,6 +1,7 @@
 // The calls of the service, for C: numbers pass as themselves, and an area as a pointer and then a length. A call gives back a
 // result, or a refusal's number made negative; no call keeps anything for the next.
 #![tactic(auto)]
+
 ghost use Rattle.images.specs.ImageCalls.{Read, Written};
 ghost use Rattle.plans.specs.PlanCalls.{Normed, Moved, RanFirst};
 ghost use Rattle.sameness.specs.SamenessCalls.{Compared, ComparedAlike};

@@ -1,5 +1,6 @@
 // How many jobs a plan can reach, and whether it is endless.
 #![tactic(auto)]
+
 ghost use Rattle.std.specs.Prelude.{◌≡◌, true, ◌↔◌, ◌<◌, get_or};
 ghost use Rattle.bpa.specs.Plans.{all_below};
 ghost use Rattle.rules.specs.Places.{table_of};

@@ -1,5 +1,6 @@
 // The calls that read and write images.
 #![tactic(auto)]
+
 ghost use Rattle.rules.specs.Places.{table_of, table_bytes};
 ghost use Rattle.rules.specs.Lists.{GoodList};
 ghost use Rattle.answer.specs.Answer.{Writes};

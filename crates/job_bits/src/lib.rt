@@ -1,5 +1,6 @@
 // Jobs as the bits of a number: those of a plan, and for each job those in the rows of its rules.
 #![tactic(auto)]
+
 ghost use Rattle.std.specs.Prelude.{◌≡◌, true};
 ghost use Rattle.bpa.specs.Plans.{all_below};
 ghost use Rattle.rules.specs.Places.{rule_count};

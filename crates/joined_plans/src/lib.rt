@@ -1,5 +1,6 @@
 // A plan over each of two joined tables: their refusals, and whether they are the same.
 #![tactic(auto)]
+
 ghost use Rattle.std.specs.Prelude.{◌≡◌, true, ◌+◌, ◌≤◌, length};
 ghost use Rattle.bpa.specs.Plans.{all_below};
 ghost use Rattle.bpa.specs.Norms.{sum_of};

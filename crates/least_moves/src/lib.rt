@@ -1,5 +1,6 @@
 // The norm-lowering rules of each job that have the least move, as a chain.
 #![tactic(auto)]
+
 ghost use Rattle.std.specs.Prelude.{◌≡◌, ◌<◌, length};
 ghost use Rattle.rules.specs.Places.{rule_at, rule_count};
 ghost use Rattle.norm.specs.NormArrays.{GoodNorms};

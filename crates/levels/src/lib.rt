@@ -1,6 +1,7 @@
 // What every job reaches in a log, from the log's end to its front: with so many moves left a job reaches what the rows of its rules for the next
 // move reach with one move fewer. One level of cells, those for one number of moves left, is filled after the other.
 #![tactic(auto)]
+
 ghost use Rattle.std.specs.Prelude.{◌≡◌, ◌≤◌, ◌<◌, length, take};
 ghost use Rattle.rules.specs.Lists.{GoodList};
 ghost use Rattle.rules.specs.Places.{rule_count};

@@ -1,5 +1,6 @@
 // The catalogue of a norm, written: how many prime forms there are, and the one at an index.
 #![tactic(auto)]
+
 ghost use Rattle.std.specs.Prelude.{◌≡◌, ◌∷◌, ◌++◌, ◌≤◌, length};
 ghost use Rattle.rules.specs.Places.{table_of};
 ghost use Rattle.norm.specs.NormArrays.{GoodNorms};

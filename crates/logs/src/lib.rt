@@ -1,6 +1,7 @@
 // The call that replays a log of moves on a plan, under an alike list. It works in the front of the workspace, and leaves the part that may be
 // used cleared.
 #![tactic(auto)]
+
 ghost use Rattle.logs.specs.LogCalls.{Replayed, Replaying};
 
 use answer::or_else;

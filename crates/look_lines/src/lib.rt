@@ -1,5 +1,6 @@
 // The lines that planlook prints, each put together in an area that the caller lends.
 #![tactic(auto)]
+
 ghost use Rattle.std.specs.Prelude.{◌≡◌, [], ◌∷◌, ◌+◌, ◌*◌, ◌≤◌, length};
 ghost use Rattle.area.specs.Areas.{IsPut};
 ghost use Rattle.look_lines.specs.Numbers.{refusal_in, result_in};

@@ -1,5 +1,6 @@
 // Rows of moves, two bytes each, compared in dictionary order of move numbers.
 #![tactic(auto)]
+
 ghost use Rattle.std.specs.Prelude.{◌≡◌, length};
 ghost use Rattle.area.specs.Numbers.{numbers_in};
 ghost use Rattle.rows.specs.Answers.{Decides};

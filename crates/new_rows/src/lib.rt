@@ -1,5 +1,6 @@
 // The new rows of all jobs, in the second half of an area: those of the old rows' half are refined.
 #![tactic(auto)]
+
 ghost use Rattle.rows.specs.Region.{row, old_half, new_half};
 ghost use Rattle.facts.specs.Facts.{jobs_in};
 ghost use Rattle.fingerprints.specs.Fingerprints.{KnownPrints};

@@ -10,7 +10,7 @@ use Rattle.catalogue.specs.Catalogue.{follows, begun, rows_down, rows_of}
 use Rattle.catalogue.proofs.BegunRows.{by_order, begun_place}
 use Rattle.catalogue.proofs.WeightedRows.{follows_left}
 use Rattle.row_counts.specs.Counts.{Counts, follow_count, total}
-use Rattle.row_counts.proofs.CountedRows.{follow_none, follow_heavy, follow_left, followers_are, begun_total, rows_total, total_at}
+use Rattle.row_counts.proofs.CountedRows.{follow_none, follow_heavy, followers_are, begun_total, rows_total, total_at}
 use Rattle.nth_row.specs.Rows.{Chosen, IsRow}
 
 -- THE JOBS PASSED OVER: the rows that begin with them come before the index, and those that begin with the others reach it

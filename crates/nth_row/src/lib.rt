@@ -1,5 +1,6 @@
 // The row of a weight at an index, in dictionary order: job by job, passing over the rows that begin with lesser ones.
 #![tactic(auto)]
+
 ghost use Rattle.std.specs.Prelude.{◌≡◌, ◌+◌, ◌≤◌, ◌<◌, length, take};
 ghost use Rattle.catalogue.specs.Catalogue.{rows_of};
 ghost use Rattle.row_counts.specs.Counts.{total, Counts};

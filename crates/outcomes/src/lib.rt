@@ -1,5 +1,6 @@
 // The call that tells whether a table has no choice of outcome, under an alike list.
 #![tactic(auto)]
+
 ghost use Rattle.outcomes.specs.OutcomeCalls.{Determined};
 
 // 1 if no job makes moves that count as one into different rows of jobs, else 0.

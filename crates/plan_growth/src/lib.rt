@@ -1,5 +1,6 @@
 // The call that tells whether a plan is finite or endless, and how many jobs it can reach.
 #![tactic(auto)]
+
 ghost use Rattle.plan_growth.specs.GrowthCalls.{Grown};
 
 use answer::or_else;

@@ -1,5 +1,6 @@
 // The calls about one plan: its norm, its n-th move, its first shortest run.
 #![tactic(auto)]
+
 ghost use Rattle.plans.specs.PlanCalls.{Normed, Moved, RanFirst};
 
 use answer::or_else;

@@ -1,6 +1,7 @@
 // The calls that write the prime form of a plan, with an alike list or without, which is the same with an empty one. Each works in the front of the
 // workspace, and leaves the part that may be used cleared.
 #![tactic(auto)]
+
 ghost use Rattle.prime_forms.specs.FormCalls.{Formed, FormedAlike, Forming};
 
 use answer::or_else;

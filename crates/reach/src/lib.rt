@@ -1,6 +1,7 @@
 // What a plan reaches in a log: the numbers of moves that can be left when it is through, as the bits of two words, and the fewest moves that
 // it can leave. A cell of 17 bytes holds such a reach: the low word, the high word, each low byte first, and the fewest moves.
 #![tactic(auto)]
+
 ghost use Rattle.std.specs.Prelude.{◌≡◌, ◌+◌, ◌*◌, ◌%◌, ◌≤◌, ◌<◌, min, length};
 ghost use Rattle.area.specs.Areas.{put};
 ghost use Rattle.reach.specs.Cells.{word_at, word_bytes, cell_bytes, InCell};

@@ -1,5 +1,6 @@
 // A log replayed on a plan, by what the plan reaches in it.
 #![tactic(auto)]
+
 ghost use Rattle.std.specs.Prelude.{◌≡◌, true, ◌≤◌, length, take};
 ghost use Rattle.bpa.specs.Plans.{all_below};
 ghost use Rattle.rules.specs.Lists.{GoodList};

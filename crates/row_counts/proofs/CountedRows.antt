@@ -1,13 +1,13 @@
 -- The sum over the jobs is the number of rows. Assumes nothing.
 use mathlib.Core.Path.{◌≡◌, refl, sym, ap, ap₂, ◌∙◌, subst}
-use mathlib.Core.Bool.{Bool, true, false, cond}
+use mathlib.Core.Bool.{Bool, cond}
 use mathlib.Core.List.{List, [], ◌∷◌}
 use Prim.Native.Nat.{ℕ, zero, suc, ◌+◌, ◌-◌, ◌≤◌, ◌<◌}
 use native.Mathlib.Numerals.{add-one}
 use native.Mathlib.Omega.{arith}
-use lib.Dec.{ltb, eqb}
+use lib.Dec.{ltb}
 use lib.ListN.{length, get_or, take, drop, set, length-set, drop_of_length-le}
-use lib.Seq.{length-take-le, drop-cons, get_or-set_same, get_or-set_other, get_or-take}
+use lib.Seq.{length-take-le, get_or-set_same, get_or-set_other, get_or-take}
 use borrow.Author.Tests.{eq-eqb, ne_eqb, lt-ltb, le-ltb}
 use Rattle.catalogue.specs.Catalogue.{follows, begun, rows_down, rows_of}
 use Rattle.catalogue.proofs.BegunRows.{by_order, none_begun, begun_long}

@@ -1,5 +1,6 @@
 // How many rows of jobs there are of each weight, by those of lesser weights.
 #![tactic(auto)]
+
 ghost use Rattle.std.specs.Prelude.{◌≡◌, ◌+◌, ◌≤◌, length, take};
 ghost use Rattle.row_counts.specs.Counts.{follow_count, Small, Counts};
 ghost use Rattle.row_counts.specs.Counts as counted;

@@ -1,6 +1,7 @@
 // The run by a rule: its move, and then the first runs of jobs of lower norm. Runs of up to 85 moves stand in rows; a longer one is put together
 // from them.
 #![tactic(auto)]
+
 ghost use Rattle.std.specs.Prelude.{◌+◌, ◌*◌, ◌≤◌, length, get_or};
 ghost use Rattle.area.specs.Areas.{IsPut};
 ghost use Rattle.area.specs.Numbers.{all_low_first};

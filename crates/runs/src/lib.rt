@@ -1,5 +1,6 @@
 // The first shortest run of a plan: the first runs of its jobs, one behind the other.
 #![tactic(auto)]
+
 ghost use Rattle.std.specs.Prelude.{◌≡◌, true, ◌++◌, suc, ◌+◌, ◌*◌, ◌≤◌, length, take, drop};
 ghost use Rattle.area.specs.Numbers.{all_low_first};
 ghost use Rattle.answer.specs.Answer.{Writes};

@@ -1,6 +1,7 @@
 // The calls that compare two plans, with an alike list or without, which is the same with an empty one. Each works in the front of the
 // workspace, and leaves the part that may be used cleared.
 #![tactic(auto)]
+
 ghost use Rattle.sameness.specs.SamenessCalls.{Compared, ComparedAlike, Comparing};
 
 use answer::or_else;

@@ -1,6 +1,7 @@
 // The call that compares a plan of one table with a plan of another, under an alike list. It works in the front of the workspace, and leaves the part
 // that may be used cleared.
 #![tactic(auto)]
+
 ghost use Rattle.two_tables.specs.TableCalls.{ComparedTables, ComparingTables};
 
 use answer::or_else;

@@ -1,5 +1,6 @@
 // The workspace that a call is lent: whether it is long enough, the part that may be used, and how it is left.
 #![tactic(auto)]
+
 ghost use Rattle.std.specs.Prelude.{◌≡◌};
 ghost use Rattle.answer.specs.Refusals.{space_refusal};
 ghost use Rattle.answer.specs.Answer.{space_after};

@@ -37,9 +37,9 @@ part_write_expansion_end c = search rules
 
 write_expansion_requires : tie.Need-write_expansion-requires
 write_expansion_requires c κs = (
-      readable _ _ _ _ _ c.prime_rows.ensures c.args.plan.now c.requires.1.0,
-      form_room _ _ _ _ _ c.prime_rows.ensures c.args.plan.now c.requires.1.0 c.requires.1.1.0 _ c.capped_sum-need.ensures c.args.out.now c.if-out-need.false,
-    )
+  readable _ _ _ _ _ c.prime_rows.ensures c.args.plan.now c.requires.1.0,
+  form_room _ _ _ _ _ c.prime_rows.ensures c.args.plan.now c.requires.1.0 c.requires.1.1.0 _ c.capped_sum-need.ensures c.args.out.now c.if-out-need.false,
+)
 
 result_requires : tie.Need-result-requires
 result_requires c κs =

@@ -17,7 +17,6 @@ use Rattle.table.specs.Tables.{Loads}
 use Rattle.table.proofs.HeldTables.{Ready, held_inside, plan_chain, plan_ready}
 use Rattle.workspace.proofs.UsablePart.{from_front, front_inside, front_size, front_cleared}
 use Rattle.workspace.proofs.WithSpace.{space_chain, space_passed}
-use Rattle.replay.specs.Replay.{replay}
 use Rattle.log_moves.proofs.LogMoves.{log_short}
 use Rattle.logs.specs.LogCalls.{plan_and_log}
 use Rattle.logs.proofs.replay_in.Statement.{statement}

@@ -1,7 +1,7 @@
 -- `look_lines::put_field` meets its contract. Assumes nothing.
 use mathlib.Core.Path.{◌≡◌, ap, ◌∙◌}
 use mathlib.Core.List.{List, ◌++◌}
-use Prim.Native.Nat.{ℕ, ◌+◌, ◌-◌}
+use Prim.Native.Nat.{ℕ, ◌-◌}
 use native.Mathlib.Nat.{sub-zero}
 use native.Mathlib.Omega.{arith}
 use borrow.Author.Rules.{rules}
@@ -27,10 +27,10 @@ put_requires_2 c κs =
 returns : tie.Need-returns
 unfolding field
 returns c = (
-      omega (arith, c.put-next.ensures.next, c.put.ensures.next, ap length (digits_put c.before.before.before.before.before.before.before.before.before), number_few c.args.value c.ranges.value.fits),
-      put_as (ap (λ (l : List ℕ). c.args.word.now ++ l) (digits_put c.before.before.before.before.before.before.before.before.before))
-          (put_both (omega (arith, c.requires)) c.put-next.ensures c.put.ensures),
-    )
+  omega (arith, c.put-next.ensures.next, c.put.ensures.next, ap length (digits_put c.before.before.before.before.before.before.before.before.before), number_few c.args.value c.ranges.value.fits),
+  put_as (ap (λ (l : List ℕ). c.args.word.now ++ l) (digits_put c.before.before.before.before.before.before.before.before.before))
+      (put_both (omega (arith, c.requires)) c.put-next.ensures c.put.ensures),
+)
 
 pub put_field_spec : {M : Type 1} → statement M
 put_field_spec =
