@@ -2,7 +2,7 @@
 use mathlib.Core.Path.{◌≡◌, refl, sym, ap, ap₂, subst, ◌∙◌}
 use mathlib.Core.Bool.{Bool, true, false, cond}
 use mathlib.Core.List.{List, [], ◌∷◌}
-use mathlib.Core.Logic.{⊎_elim}
+use mathlib.Core.Logic.{⊎_elim, inl, inr}
 use Prim.Native.Nat.{ℕ, ◌+◌, ◌-◌}
 use native.Mathlib.Omega.{arith}
 use lib.ListN.{take, drop}
@@ -23,6 +23,12 @@ Ended g = OneOf (0 ∷ 1 ∷ 2 ∷ []) (tag_of the_type g)
 
 not_plan : (n : ℕ) → Ended (Plan n) → ⊥
 not_plan n h = ⊎_elim (λ (e : ◌≡◌ {A = ℕ} 3 0). omega arith) (⊎_elim (λ (e : ◌≡◌ {A = ℕ} 3 1). omega arith) (λ (e : ◌≡◌ {A = ℕ} 3 2). omega arith)) h
+
+pub ended : (g : Got) → ((n : ℕ) → g ≡ Plan n → ⊥) → Ended g
+ended End h = inl refl
+ended Cut h = inr (inl refl)
+ended Long h = inr (inr refl)
+ended (Plan n) h = absurd (h n refl)
 
 left_ended : (l r : Got) → Ended l → (pair_got l r ≡ l) × (whole l ≡ false)
 unfolding pair_got whole

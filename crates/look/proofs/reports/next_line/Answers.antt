@@ -5,18 +5,18 @@ use borrow.Author.Rules.{rules}
 use Rattle.look_input.proofs.Plans.{plan_short}
 use Rattle.look_lines.specs.Lines.{end_line}
 use Rattle.look_lines.proofs.Puts.{line_as}
-use Rattle.look.proofs.PairLine.{ends_left, ends_right, both_whole}
+use Rattle.look.proofs.PairLine.{ended, ends_left, ends_right, both_whole}
 use Rattle.look.proofs.reports.next_line.Goals as goal
 
 pub returns-in_default : goal.returns-in_default
 returns-in_default c =
     let p = c.read_pair-read in
-    ends_left _ _ _ p.result.left p.result.right p.ensures c.in_default.not-Plan c.end_line-size.ensures
+    ends_left _ _ _ p.result.left p.result.right p.ensures (ended _ c.in_default.not-Plan) c.end_line-size.ensures
 
 pub returns-in_default-right : goal.returns-in_default-right
 returns-in_default-right c =
     let p = c.read_pair-read in
-    ends_right _ _ _ p.result.left p.result.right p.ensures _ c.in-Plan.is c.in_default-right.not-Plan
+    ends_right _ _ _ p.result.left p.result.right p.ensures _ c.in-Plan.is (ended _ c.in_default-right.not-Plan)
     (line_as (ap end_line c.right_end.ensures) c.end_line-size-in_default-right.ensures)
 
 -- whole plans are no longer than their parts
