@@ -71,11 +71,11 @@ ready: $(ARCHIVE) $(PLANLOOK)
 SOURCES := crates.txt $(shell find crates -name out -prune -o \( -name '*.rt' -o -name '*.antt' \) -print)
 
 target/staticlib/libgindrazoma.a: $(SOURCES)
-	@tools/progress.sh gindrazoma_c build/log/gindrazoma.log rt lib gindrazoma_c
+	@tools/progress.sh gindrazoma_c build/log/gindrazoma.log sh -c 'cd crates/gindrazoma_c && rt lib'
 	@mkdir -p $(@D) && cp crates/gindrazoma_c/out/libgindrazoma_c.a $@
 
 target/bin/planlook: $(SOURCES)
-	@tools/progress.sh planlook build/log/planlook.log sh -c 'rt run planlook </dev/null'
+	@tools/progress.sh planlook build/log/planlook.log sh -c 'cd crates/planlook && rt run </dev/null'
 	@mkdir -p $(@D) && cp crates/planlook/out/planlook $@
 
 check-proofs:

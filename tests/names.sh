@@ -169,9 +169,12 @@ done | sed 's|crates/\(.*\)/must-fail/\(.*\).edit|\1/\2|' >"$work/edits"
 
 compare "must-fail edits" docs/PROOFS.md "$work/document" "the crates" "$work/edits"
 
-# ---- no document names what the header does not have
+# ---- no document names what the header does not have; the crate that exports the calls has the library's prefix too
 
-words "$header" >"$work/header"
+{
+    words "$header"
+    basename -a crates/gindrazoma_*
+} | sort -u >"$work/header"
 for document in README.md docs/*.md man/*; do
     words "$document" | comm -23 - "$work/header" | sed "s|^|    $document has |"
 done >"$work/unknown"

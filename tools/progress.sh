@@ -1,8 +1,8 @@
 #!/bin/sh
 # progress.sh CRATE LOG COMMAND..: runs a command of rt that proves a crate of crates.txt with all that it uses, and says how
 # far it is: on a terminal in one line that is written over, elsewhere in a line for each crate. What the command prints goes
-# to the log. If it fails, the end of the log is shown, up to the first crate that is not proved: those after it mostly fail
-# because they use it. The exit status is the command's.
+# to the log. If it fails, the end of the log is shown, up to the first crate that is not proved: those after it are not
+# tried. The exit status is the command's.
 set -u
 if [ $# -lt 3 ]; then
     echo "usage: progress.sh CRATE LOG COMMAND.." >&2
@@ -27,7 +27,7 @@ total=$(awk -v crate="$crate" '
 mkdir -p "$(dirname "$log")" && : >"$log" || exit 2
 
 if [ -t 1 ]; then over=yes; else over=; fi
-echo "$crate: $total crates to prove, which takes minutes the first time; what rt prints is in $log"
+echo "$crate: $total crates to check, which takes minutes the first time; what rt prints is in $log"
 
 # Takes the line that is written over off the terminal.
 wipe() {
@@ -42,19 +42,14 @@ trap 'echo; echo "$crate: interrupted; what is proved so far is kept" >&2; exit 
     count=0
     while IFS= read -r line; do
         case $line in
-        "rt: "*" proved ("*)
+        "rt: chose --jobs "*" for "*)
             count=$((count + 1))
-            name=${line#rt: }
-            name=${name%% *}
+            name=${line##* for }
             if [ -n "$over" ]; then
-                printf '\rcrate %d of %d proved: %-24s' "$count" "$total" "$name"
-            elif [ "${line#*unchanged}" = "$line" ]; then
-                echo "crate $count of $total proved: $name ${line##* proved }"
+                printf '\rcrate %d of %d: %-24s' "$count" "$total" "$name"
+            else
+                echo "crate $count of $total: $name"
             fi
-            ;;
-        "rt: "*" NOT PROVED ("*)
-            wipe
-            echo "${line#rt: }"
             ;;
         "exit status "*) status=${line#exit status } ;;
         esac
@@ -67,7 +62,7 @@ if [ "$status" -eq 0 ]; then
     echo "$crate: proved and built"
 else
     {
-        sed '/ NOT PROVED (/q' "$log" | tail -n 20 | cut -c 1-400
+        sed '/^logic=not-proved/q' "$log" | grep -v '^statements \|^library ' | tail -n 20 | cut -c 1-400
         echo "FAILED with status $status: $*; the whole output is in $log"
     } >&2
 fi
