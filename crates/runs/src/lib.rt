@@ -64,7 +64,8 @@ fn write_run(
 }
 
 // The first shortest run of an accepted plan, two bytes a move, or refusal 10. Choices are made for jobs of at most the plan's norm: no other
-// stands in it.
+// stands in it. It is never inlined: its rows would stand on the stack beside what the loading of a table needs there.
+#[inline(never)]
 pub fn shortest_run(
     jobs: usize,
     rules: &[u8],
