@@ -8,7 +8,7 @@ pub join_rules_spec : {M : Type 1} → statement M
 join_rules_spec =
     tie.close
     (tie.spec
-    (λ c. record { refused = λ h. (refl, refl); joined = λ z. absurd (c.if-refusal-ne0.true z) })
+    (λ c. record { refused = λ h. (refl, refl); joined = λ z. absurd (omega arith) })
     (λ c. omega (arith, c.before.before.before.requires.few))
-    (λ c κs. c.before.before.before.requires.joins c.before.if-refusal-ne0.false)
-    (λ c. record { refused = λ h. absurd (h c.before.before.if-refusal-ne0.false); joined = λ z. c.append.ensures }))  -- returns-2
+    (λ c κs. c.before.before.before.requires.joins (omega arith))
+    (λ c. record { refused = λ h. absurd (h (omega arith)); joined = λ z. c.append.ensures }))  -- returns-2

@@ -10,7 +10,7 @@ refusal_spec =
     tie.close
     (tie.spec
     (λ c. search rules)
-    (λ c. many_jobs _ _ c.if-jobs-others-gt24.true)
+    (λ c. many_jobs _ _ (omega arith))
     (λ c. search rules)
-    (λ c. many_rules _ _ c.if-end-more-gt2016.true)
-    (λ c. sizes_fit _ _ (omega (arith, c.before.if-jobs-others-gt24.false)) (omega (arith, c.if-end-more-gt2016.false))))  -- returns-3
+    (λ c. many_rules _ _ (omega arith))
+    (λ c. sizes_fit _ _ (omega arith) (omega arith)))  -- returns-3
