@@ -114,13 +114,16 @@ fn to_moves(list: &[u8], count: usize, froms: &[u16; 32]) -> Moves
     }
 }
 
+// The most pairs of a list.
+const PAIRS: usize = 32;
+
 // The pairs of a list that is not empty, or refusal 12 or 13.
 pub fn read_list(list: &[u8]) -> Pairs
     requires { 0 < length list.now }
     ensures { ReadsList list.now result.refusal result.froms result.tos result.end }
 {
     let count = list.len() / 4;
-    if 32 < count || 0 < list.len() % 4 {
+    if PAIRS < count || 0 < list.len() % 4 {
         return Pairs {
             refusal: 12,
             end: 0,

@@ -8,11 +8,14 @@ ghost use Rattle.log_moves.specs.Logs.{log_refusal, HoldsLog};
 
 use alike_list::move_at;
 
+// The most moves of a log.
+const MOVES: usize = 128;
+
 // Refusal 11.
 pub fn refusal(log: &[u8]) -> u8
     ensures { result ≡ log_refusal log.now }
 {
-    if 128 < log.len() / 2 || 0 < log.len() % 2 {
+    if MOVES < log.len() / 2 || 0 < log.len() % 2 {
         return 11;
     }
     0

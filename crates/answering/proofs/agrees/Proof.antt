@@ -69,35 +69,30 @@ module _ (c : tie.After-pick-x) where
       let h = inside start (forward start) in
       (omega (arith, c.before.pick-y.ensures, h.0), omega (arith, c.pick-x.ensures, h.1))
 
-may_agree_requires : tie.Need-may_agree-requires
-may_agree_requires c κs =
-    let p = (start c).requires.0.1 in
-    ((p.jobs, (drop 1 (parts (start c)), p.looks)), (pair_printing p, within c))
-
-remainder_norm_requires : tie.Need-remainder_norm-requires
-remainder_norm_requires c κs =
-    let at = start c.before.before in
+pub agrees_spec : {M : Type 1} → statement M
+agrees_spec =
+    tie.close
+    (tie.spec
+    (λ c κs. search rules)
+    (λ c κs. search rules)
+    (λ c κs. let p = (start c).requires.0.1 in
+    ((p.jobs, (drop 1 (parts (start c)), p.looks)), (pair_printing p, within c)))
+    (λ c κs. let at = start c.before.before in
     let p = at.requires.0.1 in
-    (p.jobs, (rs at, ([], (nothing_waits p.looks, at.requires.1.1.0.inside))))
-
-left_equal_requires : tie.Need-left_equal-requires
-left_equal_requires c κs =
-    let test = c.before.before in
+    (p.jobs, (rs at, ([], (nothing_waits p.looks, at.requires.1.1.0.inside)))))
+    (λ c κs. let test = c.before.before in
     let may = test.before in
     let picked = may.before in
     let at = start picked in
     let p = at.requires.0.1 in
-    let same = may.may_agree.ensures.norm test.if-may_agree.true in (
+    let same = may.may_agree.ensures.norm (assumption) in (
       pair_halves p,
       (
         (p.jobs, equal_norms p.looks picked.before.pick-y.result picked.pick-x.result (within picked).0 (within picked).1 same),
         within picked,
       ),
-    )
-
-returns : tie.Need-returns-then-may_agree
-returns c =
-    let norm = c.before.before in
+    ))
+    (λ c. let norm = c.before.before in
     let test = norm.before in
     let may = test.before in
     let picked = may.before in
@@ -107,27 +102,12 @@ returns c =
     let same = ap (λ (n : ℕ). ltb n at.args.pair.norm) (let e : norm.remainder_norm.result ≡ get_or (sums at) (r at) 0 = omega (arith, norm.remainder_norm.ensures.is) in e) in
     may_if_equal (rows_by at (falls at)) (rs at) (sums at) at.args.pair.gap (rest_by at (falls at)) (r at) (s at) (forward at)
     at.args.prints.now at.args.pair.value at.args.pair.power y x picked.before.pick-y.ensures picked.pick-x.ensures
-    may.may_agree.result may.may_agree.ensures test.if-may_agree.true c.left_equal.result
-    (subst (λ (b : Bool). Decides c.left_equal.result (LeftEqual (rows_by at b) (rs at) (rest_by at b) y x)) same c.left_equal.ensures)
-
-returns_2 : tie.Need-returns
-returns_2 c =
-    let may = c.before in
+    may.may_agree.result may.may_agree.ensures (assumption) c.left_equal.result
+    (subst (λ (b : Bool). Decides c.left_equal.result (LeftEqual (rows_by at b) (rs at) (rest_by at b) y x)) same c.left_equal.ensures))
+    (λ c. let may = c.before in
     let picked = may.before in
     let at = start picked in
     may_not (rows_by at (falls at)) (rs at) (sums at) at.args.pair.gap (rest_by at (falls at)) (r at) (s at) (forward at)
     at.args.prints.now at.args.pair.value at.args.pair.power picked.before.pick-y.result picked.pick-x.result
-    picked.before.pick-y.ensures picked.pick-x.ensures may.may_agree.result may.may_agree.ensures c.if-may_agree.false
-    (at.requires.0.1.tells at.requires.1.0 (r at) (s at) at.requires.1.1.0 at.requires.1.1.1)
-
-pub agrees_spec : {M : Type 1} → statement M
-agrees_spec =
-    tie.close
-    (tie.spec
-    (λ c κs. search rules)
-    (λ c κs. search rules)
-    may_agree_requires
-    remainder_norm_requires
-    left_equal_requires
-    returns
-    returns_2)
+    picked.before.pick-y.ensures picked.pick-x.ensures may.may_agree.result may.may_agree.ensures (assumption)
+    (at.requires.0.1.tells at.requires.1.0 (r at) (s at) at.requires.1.1.0 at.requires.1.1.1)))

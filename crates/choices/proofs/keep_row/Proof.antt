@@ -16,9 +16,6 @@ use Rattle.lowering.proofs.ShortRows.{row_put, row_kept, made_front}
 use Rattle.choices.proofs.keep_row.Statement.{statement}
 use Rattle.choices.proofs.keep_row.Tie as tie
 
-rule_job_requires : tie.Need-rule_job-job-requires
-rule_job_requires c κs = c.before.before.requires.1.0.place
-
 job_below : (c : tie.After-rule_job-job) → c.rule_job-job.result < 24
 job_below c =
     let s = c.before.before.before in
@@ -30,64 +27,6 @@ norm_is : (c : tie.After-norm_of-norm) →
 norm_is c =
     let s = c.before.before.before.before in
     c.norm_of-norm.ensures.is ∙ ap (λ (x : ℕ). get_or s.args.norms.now x 0) c.before.rule_job-job.ensures.is
-
-norm_of_requires : tie.Need-norm_of-norm-requires
-norm_of_requires c κs = job_below c
-
-returns : tie.Need-returns-then-norm-gt85
-returns c = record { row = λ l. absurd (omega (arith, norm_is c.before, c.if-norm-gt85.true)); others = λ j d l. refl }
-
-rule_move_requires : tie.Need-rule_move-requires
-rule_move_requires c κs = c.before.before.before.before.before.before.requires.1.0.place
-
-cast_put_number : tie.Need-overflow_cast-rule_move
-cast_put_number c = omega (arith, c.rule_move.ensures.small)
-
-mul_put_number : tie.Need-overflow_mul-job
-mul_put_number c = omega (arith, job_below c.before.before.before.before)
-
-put_number_requires : tie.Need-put_number-requires
-put_number_requires c κs =
-    let n = c.before.before.before.before in
-    omega (arith, job_below n.before, n.before.before.before.before.requires.1.1.size)
-
-same_length : tie.Need-shape_of-rows-then-norm-eq1
-same_length c = search rules
-
--- a job of norm 1: its run is one move
-returns_2 : tie.Need-returns-then-norm-eq1
-unfolding low_first
-returns_2 c =
-    let w = c.before.before.put_number in
-    let m = c.before.before.before.before in
-    let t = m.before in
-    let n = t.before.before in
-    let s = n.before.before.before.before in
-    let a = s.args in
-    let rs = a.rules.now in
-    let ns = a.norms.now in
-    let rows = a.rows.now in
-    let j = (rule_at rs a.rule).job in
-    let is = n.before.rule_job-job.ensures.is in
-    let one : get_or ns j 0 ≡ 1 = omega (arith, norm_is n, t.if-norm-eq1.true) in
-    let alone = only_move a.jobs rs ns s.requires.0 a.rule s.requires.1.0 one in
-    let put_at = w.ensures ∙ ap₂ (λ (x v : ℕ). put (170 * x) (low_first v) rows) is m.rule_move.ensures.is in
-    let small = subst (λ (x : ℕ). x < 24) is (job_below n.before) in
-    let size = s.requires.1.1.size in
-    let new = low_first (rule_at rs a.rule).move in
-    record {
-      row = λ l. ap (λ (v : List ℕ). short_row ns v j) put_at ∙ row_put ns rows j new size small (omega arith) (omega (arith, one)) ∙ sym alone;
-      others = λ i other l. ap (λ (v : List ℕ). short_row ns v i) put_at ∙ row_kept ns rows j new size small (omega arith) i other l;
-    }
-
-slice_aggregate_make_run : tie.Need-slice_bounds-make_run-end
-slice_aggregate_make_run c = search rules
-
-make_run_requires : tie.Need-make_run-n-requires
-make_run_requires c κs =
-    let e = c.before.before.before in
-    let s = e.before.before.before.before in
-    (s.requires.0, (s.requires.1.0, (s.requires.1.1, omega (arith, norm_is e, c.if-norm-gt85.false))))
 
 -- the run that was made
 module _ (c : tie.After-make_run-n) where
@@ -132,31 +71,54 @@ module _ (c : tie.After-make_run-n) where
   below : job < 24
   below = job_below tested.before.before
 
-mul_put : tie.Need-overflow_mul-job-2
-mul_put c = omega (arith, below c.before.before)
-
-sub_put : tie.Need-slice_bounds-put-count
-sub_put c = search rules
-
-part_put_start : tie.Need-slice_bounds-put-start
-part_put_start c = search rules
-
-part_put_end : tie.Need-slice_bounds-put-end
-part_put_end c =
-    let d = c.before.before in
-    omega (arith, result_is d, norm_is (tested d).before, (tested d).if-norm-gt85.false, d.make_run-n.auto.made)
-
-put_requires : tie.Need-put-requires
-put_requires c κs =
-    let d = c.before.before.before in
-    omega (arith, new_short d, below d, (start d).requires.1.1.size)
-
-same_length_2 : tie.Need-shape_of-rows
-same_length_2 c = search rules
-
-returns_3 : tie.Need-returns
-returns_3 c =
-    let d = c.before.before.before.before.before.before in
+pub keep_row_spec : {M : Type 1} → statement M
+unfolding low_first
+keep_row_spec =
+    tie.close
+    (tie.spec
+    (λ c κs. c.before.before.requires.1.0.place)
+    (λ c κs. job_below c)
+    (λ c. record { row = λ l. absurd (omega (arith, norm_is c.before, c.if-norm-gt85.true)); others = λ j d l. refl })
+    (λ c κs. c.before.before.before.before.before.before.requires.1.0.place)
+    (λ c. omega (arith, c.rule_move.ensures.small))
+    (λ c. omega (arith, job_below c.before.before.before.before))
+    (λ c κs. let n = c.before.before.before.before in
+    omega (arith, job_below n.before, n.before.before.before.before.requires.1.1.size))
+    (λ c. search rules)
+    (λ c. let w = c.before.before.put_number in
+    let m = c.before.before.before.before in
+    let t = m.before in
+    let n = t.before.before in
+    let s = n.before.before.before.before in
+    let a = s.args in
+    let rs = a.rules.now in
+    let ns = a.norms.now in
+    let rows = a.rows.now in
+    let j = (rule_at rs a.rule).job in
+    let is = n.before.rule_job-job.ensures.is in
+    let one : get_or ns j 0 ≡ 1 = omega (arith, norm_is n) in
+    let alone = only_move a.jobs rs ns s.requires.0 a.rule s.requires.1.0 one in
+    let put_at = w.ensures ∙ ap₂ (λ (x v : ℕ). put (170 * x) (low_first v) rows) is m.rule_move.ensures.is in
+    let small = subst (λ (x : ℕ). x < 24) is (job_below n.before) in
+    let size = s.requires.1.1.size in
+    let new = low_first (rule_at rs a.rule).move in
+    record {
+      row = λ l. ap (λ (v : List ℕ). short_row ns v j) put_at ∙ row_put ns rows j new size small (omega arith) (omega (arith, one)) ∙ sym alone;
+      others = λ i other l. ap (λ (v : List ℕ). short_row ns v i) put_at ∙ row_kept ns rows j new size small (omega arith) i other l;
+    })
+    (λ c. search rules)
+    (λ c κs. let e = c.before.before.before in
+    let s = e.before.before.before.before in
+    (s.requires.0, (s.requires.1.0, (s.requires.1.1, omega (arith, norm_is e, c.if-norm-gt85.false)))))
+    (λ c. omega (arith, below c.before.before))
+    (λ c. search rules)
+    (λ c. search rules)
+    (λ c. let d = c.before.before in
+    omega (arith, result_is d, norm_is (tested d).before, (tested d).if-norm-gt85.false, d.make_run-n.auto.made))
+    (λ c κs. let d = c.before.before.before in
+    omega (arith, new_short d, below d, (start d).requires.1.1.size))
+    (λ c. search rules)
+    (λ c. let d = c.before.before.before.before.before.before in
     let rows = (start d).args.rows.now in
     let put_at = c.before.before.put.ensures.output ∙ ap (λ (x : ℕ). put (170 * x) (new d) rows) (is_job d) in
     let small = subst (λ (x : ℕ). x < 24) (is_job d) (below d) in
@@ -165,27 +127,4 @@ returns_3 c =
     record {
       row = λ l. ap (λ (w : List ℕ). short_row (ns d) w j) put_at ∙ row_put (ns d) rows j (new d) size small (new_short d) (new_length d) ∙ new_is d;
       others = λ i other l. ap (λ (w : List ℕ). short_row (ns d) w i) put_at ∙ row_kept (ns d) rows j (new d) size small (new_short d) i other l;
-    }
-
-pub keep_row_spec : {M : Type 1} → statement M
-keep_row_spec =
-    tie.close
-    (tie.spec
-    rule_job_requires
-    norm_of_requires
-    returns
-    rule_move_requires
-    cast_put_number
-    mul_put_number
-    put_number_requires
-    same_length
-    returns_2
-    slice_aggregate_make_run
-    make_run_requires
-    mul_put
-    sub_put
-    part_put_start
-    part_put_end
-    put_requires
-    same_length_2
-    returns_3)
+    }))

@@ -22,9 +22,6 @@ decreases_loop rows lens jobs moved prints₀ j₀ prints j = jobs - j
 abbrev rows_of : tie.Start invariant_loop decreases_loop → Rows
 rows_of s = row s.args.lens.now s.args.rows.now
 
-loop_holds : tie.Need-loop-j-init invariant_loop decreases_loop
-loop_holds c = let s = c.before in printing_first s.args.jobs (rows_of s) s.args.moved.now s.args.prints.now s.requires.1
-
 -- the job that a turn looks at
 module _ (c : tie.In-loop-j invariant_loop decreases_loop) where
   abbrev start : tie.Start invariant_loop decreases_loop
@@ -39,45 +36,19 @@ module _ (c : tie.In-loop-j invariant_loop decreases_loop) where
   short : get_or start.args.lens.now j 0 ≤ 512
   short = start.requires.0.short j c.loop-j-test.true
 
-loop_again : tie.Need-loop-j-preserved-then-moved-job-eq0 invariant_loop decreases_loop
-loop_again c =
-    let turn = c.before.before.before in
-    let s = start turn in
-    printing_past s.args.jobs (rows_of s) s.args.moved.now turn.before.loop-j.prints (j turn) turn.before.loop-j.invariant c.if-moved-job-eq0.true
-
-part_row_print_end : tie.Need-slice_bounds-row_print-end invariant_loop decreases_loop
-part_row_print_end c =
-    let turn = c.before.before.before.before.before in
-    let s = start turn in
-    omega (arith, row_inside s.args.jobs s.args.lens.now s.args.rows.now s.requires.0 (j turn) turn.loop-j-test.true)
-
-loop_again_2 : tie.Need-loop-j-preserved invariant_loop decreases_loop
-loop_again_2 c =
-    let print = c.before.before in
-    let turn = print.before.before.before.before.before.before.before.before in
-    let s = start turn in
-    let x = print.row_print-print in
-    printing_more s.args.jobs (rows_of s) s.args.moved.now turn.before.loop-j.prints (j turn) turn.before.loop-j.invariant (small turn)
-    x.result.value x.result.power (lent s.args.lens.now s.args.rows.now (j turn))
-    (row_part s.args.lens.now s.args.rows.now (j turn)) x.ensures s.requires.0.few
-
-returns : tie.Need-returns invariant_loop decreases_loop
-returns c =
-    let s = c.before.before.before in
-    printing_last s.args.jobs (rows_of s) s.args.moved.now c.before.loop-j.prints c.before.loop-j.j c.loop-j-test.false
-    c.before.loop-j.invariant
-
 pub row_prints_spec : {M : Type 1} → statement M
 row_prints_spec =
     tie.close
     (tie.spec
     invariant_loop
     decreases_loop
-    loop_holds
+    (λ c. let s = c.before in printing_first s.args.jobs (rows_of s) s.args.moved.now s.args.prints.now s.requires.1)
     (λ c. omega (arith, small c))
     (λ c. small c.before)
     (λ c. omega (arith, c.before.before.loop-j-test.true))
-    loop_again
+    (λ c. let turn = c.before.before.before in
+    let s = start turn in
+    printing_past s.args.jobs (rows_of s) s.args.moved.now turn.before.loop-j.prints (j turn) turn.before.loop-j.invariant (omega arith))
     (λ c. omega (arith, small c.before.before.before))
     (λ c. omega (arith, small c.before.before.before))
     (λ c. omega (arith, small c.before.before.before.before))
@@ -85,7 +56,9 @@ row_prints_spec =
     (λ c. omega (arith, small c.before.before.before.before.before, short c.before.before.before.before.before))
     (λ c. omega arith)
     (λ c. omega arith)
-    part_row_print_end
+    (λ c. let turn = c.before.before.before.before.before in
+    let s = start turn in
+    omega (arith, row_inside s.args.jobs s.args.lens.now s.args.rows.now s.requires.0 (j turn) turn.loop-j-test.true))
     (λ c κs. search rules)
     (λ c. omega (arith, modulus_is, print_value _ _ _ c.before.row_print-print.ensures))
     (λ c. omega (arith, small c.before.before.before.before.before.before.before.before))
@@ -95,5 +68,13 @@ row_prints_spec =
     (λ c. omega (arith, small c.before.before.before.before.before.before.before.before.before.before))
     (λ c. omega (arith, small c.before.before.before.before.before.before.before.before.before.before))
     (λ c. omega (arith, c.before.before.before.before.before.before.before.loop-j-test.true))
-    loop_again_2
-    returns)
+    (λ c. let print = c.before.before in
+    let turn = print.before.before.before.before.before.before.before.before in
+    let s = start turn in
+    let x = print.row_print-print in
+    printing_more s.args.jobs (rows_of s) s.args.moved.now turn.before.loop-j.prints (j turn) turn.before.loop-j.invariant (small turn)
+    x.result.value x.result.power (lent s.args.lens.now s.args.rows.now (j turn))
+    (row_part s.args.lens.now s.args.rows.now (j turn)) x.ensures s.requires.0.few)
+    (λ c. let s = c.before.before.before in
+    printing_last s.args.jobs (rows_of s) s.args.moved.now c.before.loop-j.prints c.before.loop-j.j c.loop-j-test.false
+    c.before.loop-j.invariant))

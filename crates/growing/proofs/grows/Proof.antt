@@ -19,40 +19,8 @@ invariant_loop rows fronts reached job₀ job =
 abbrev decreases_loop : tie.decreases-loop-job
 decreases_loop rows fronts reached job₀ job = 24 - job
 
-comes_back_requires : tie.Need-comes_back-requires invariant_loop decreases_loop
-comes_back_requires c κs =
-    let s = c.before.before.before in
-    (s.requires.0, (s.requires.1.0, omega (arith, c.before.loop-job-test.true)))
-
-returns : tie.Need-returns-then-comes_back invariant_loop decreases_loop
-unfolding bit
-returns c =
-    let b = c.before in
-    let i = b.before.before in (
-      (λ e. (i.before.loop-job.job, b.before.if-reached-at-eq1.true, b.comes_back.ensures.0 c.if-comes_back.true)),
-      (λ w. refl),
-    )
-
-loop_again : tie.Need-loop-job-preserved-else-comes_back invariant_loop decreases_loop
-loop_again c =
-    let b = c.before in
-    let i = b.before.before in
-    (omega (arith, i.loop-job-test.true), below_more _ i.before.loop-job.job i.before.loop-job.invariant.1 (λ h l. never_both b.comes_back.result (b.comes_back.ensures.1 l) c.if-comes_back.false))
-
-loop_again_2 : tie.Need-loop-job-preserved invariant_loop decreases_loop
-unfolding bit
-loop_again_2 c = let i = c.before in (omega (arith, i.loop-job-test.true), below_more _ i.before.loop-job.job i.before.loop-job.invariant.1 (λ h l. c.if-reached-at-eq1.false h))
-
-returns_2 : tie.Need-returns invariant_loop decreases_loop
-returns_2 c =
-    let s = c.before.before in (
-      (λ e. absurd (false≢true e)),
-      (λ w.
-          let (j, b, l) = w in
-          absurd (c.before.loop-job.invariant.1 j (omega (arith, c.loop-job-test.false, set_within s.args.reached j 24 b s.requires.1.1)) b l)),
-    )
-
 pub grows_spec : {M : Type 1} → statement M
+unfolding bit
 grows_spec =
     tie.close
     (tie.spec
@@ -61,10 +29,22 @@ grows_spec =
     (λ c. (omega arith, below_none _))
     (λ c. omega (arith, c.loop-job-test.true))
     (λ c. omega (arith, c.loop-job-test.true))
-    comes_back_requires
-    returns
+    (λ c κs. let s = c.before.before.before in
+    (s.requires.0, (s.requires.1.0, omega (arith, c.before.loop-job-test.true))))
+    (λ c. let b = c.before in
+    let i = b.before.before in (
+      (λ e. (i.before.loop-job.job, omega arith, b.comes_back.ensures.0 c.if-comes_back.true)),
+      (λ w. refl),
+    ))
     (λ c. omega (arith, c.before.before.before.loop-job-test.true))
-    loop_again
+    (λ c. let b = c.before in
+    let i = b.before.before in
+    (omega (arith, i.loop-job-test.true), below_more _ i.before.loop-job.job i.before.loop-job.invariant.1 (λ h l. never_both b.comes_back.result (b.comes_back.ensures.1 l) c.if-comes_back.false)))
     (λ c. omega (arith, c.before.loop-job-test.true))
-    loop_again_2
-    returns_2)
+    (λ c. let i = c.before in (omega (arith, i.loop-job-test.true), below_more _ i.before.loop-job.job i.before.loop-job.invariant.1 (λ h l. omega arith)))
+    (λ c. let s = c.before.before in (
+      (λ e. absurd (false≢true e)),
+      (λ w.
+          let (j, b, l) = w in
+          absurd (c.before.loop-job.invariant.1 j (omega (arith, c.loop-job-test.false, set_within s.args.reached j 24 b s.requires.1.1)) b l)),
+    )))

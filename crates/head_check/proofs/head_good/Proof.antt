@@ -45,94 +45,46 @@ parts c =
     let high : job ≤ 24 = omega arith in
     rest args.jobs args.count args.k args.block.now low high (sym c.before.before.before.wide-here.ensures.is ∙ c.if-here-jobs.false)
 
-shared_slice_read_wide : tie.Need-bounds-block-0
-shared_slice_read_wide c = search rules
-
-wide_requires : tie.Need-wide-here-requires
-wide_requires c κs = search rules
-
-returns : tie.Need-returns-then-here-lt1
-returns c =
-    let start = c.before.before.before.before in
-    let x = start.args.block.now in
-    let job = get_or x 0 0 in
-    let bad : job < 1 = omega arith in
-    sym (few_jobs start.args.jobs start.args.count start.args.k x bad)
-
-returns_2 : tie.Need-returns-then-here-gt24
-returns_2 c =
-    let start = c.before.before.before.before.before in
-    let x = start.args.block.now in
-    let job = get_or x 0 0 in
-    let low : 1 ≤ job = omega arith in
-    let bad : 24 < job = omega arith in
-    sym (many_jobs start.args.jobs start.args.count start.args.k x low bad)
-
-returns_3 : tie.Need-returns-then-here-jobs
-returns_3 c =
-    let start = c.before.before.before.before.before.before in
-    let x = start.args.block.now in
-    let job = get_or x 0 0 in
-    let low : 1 ≤ job = omega arith in
-    let high : job ≤ 24 = omega arith in
-    sym (other_jobs start.args.jobs start.args.count start.args.k x low high (λ same. c.if-here-jobs.true (c.before.before.before.wide-here.ensures.is ∙ same)))
-
-shared_slice_read_wide_2 : tie.Need-bounds-block-1
-shared_slice_read_wide_2 c = search rules
-
-wide_requires_2 : tie.Need-wide-rules-requires
-wide_requires_2 c κs = search rules
-
-add_next : tie.Need-overflow_add-next
-add_next c = search rules
-
-rules_fit_requires : tie.Need-rules_fit-requires
-rules_fit_requires c κs = search rules
-
-number_at_requires : tie.Need-number_at-number-requires
-number_at_requires c κs = search rules
-
-returns_4 : tie.Need-returns-then-number-k
-returns_4 c =
-    let here = c.before.before.before.before.before.before in
-    let args = here.before.before.before.before.before.before.args in
-    let fits = ap (rules_fit (eqb (args.k + 1) args.count)) (sym c.before.before.before.before.wide-rules.ensures.is) ∙ sym c.before.before.before.rules_fit.ensures in
-    let other : number_at 506 args.block.now ≡ args.k → ⊥ = λ same. c.if-number-k.true (c.before.number_at-number.ensures ∙ same) in
-    sym (parts here ∙ rw (fits ∙ c.before.before.if-rules_fit.true, ne_eqb (number_at 506 args.block.now) args.k other))
-
-number_at_requires_2 : tie.Need-number_at-blocks-requires
-number_at_requires_2 c κs = search rules
-
-returns_5 : tie.Need-returns-then-rules_fit
-returns_5 c =
-    let here = c.before.before.before.before.before.before.before in
-    let args = here.before.before.before.before.before.before.args in
-    let fits = ap (rules_fit (eqb (args.k + 1) args.count)) (sym c.before.before.before.before.before.wide-rules.ensures.is) ∙ sym c.before.before.before.before.rules_fit.ensures in
-    let same : number_at 506 args.block.now ≡ args.k = sym c.before.before.number_at-number.ensures ∙ c.before.if-number-k.false in
-    sym (parts here ∙ rw (fits ∙ c.before.before.before.if-rules_fit.true, eq-eqb (number_at 506 args.block.now) args.k same, sym c.number_at-blocks.ensures))
-
-returns_6 : tie.Need-returns
-returns_6 c =
-    let here = c.before.before.before.before in
-    let args = here.before.before.before.before.before.before.args in
-    let fits = ap (rules_fit (eqb (args.k + 1) args.count)) (sym c.before.before.wide-rules.ensures.is) ∙ sym c.before.rules_fit.ensures in
-    sym (parts here ∙ rw (fits ∙ c.if-rules_fit.false))
-
 pub head_good_spec : {M : Type 1} → statement M
 head_good_spec =
     tie.close
     (tie.spec
-    shared_slice_read_wide
-    wide_requires
-    returns
-    returns_2
-    returns_3
-    shared_slice_read_wide_2
-    wide_requires_2
-    add_next
-    rules_fit_requires
-    number_at_requires
-    returns_4
-    number_at_requires_2
-    returns_5
-    returns_6)
+    (λ c. search rules)
+    (λ c κs. search rules)
+    (λ c. let start = c.before.before.before.before in
+    let x = start.args.block.now in
+    let job = get_or x 0 0 in
+    let bad : job < 1 = omega arith in
+    sym (few_jobs start.args.jobs start.args.count start.args.k x bad))
+    (λ c. let start = c.before.before.before.before.before in
+    let x = start.args.block.now in
+    let job = get_or x 0 0 in
+    let low : 1 ≤ job = omega arith in
+    let bad : 24 < job = omega arith in
+    sym (many_jobs start.args.jobs start.args.count start.args.k x low bad))
+    (λ c. let start = c.before.before.before.before.before.before in
+    let x = start.args.block.now in
+    let job = get_or x 0 0 in
+    let low : 1 ≤ job = omega arith in
+    let high : job ≤ 24 = omega arith in
+    sym (other_jobs start.args.jobs start.args.count start.args.k x low high (λ same. c.if-here-jobs.true (c.before.before.before.wide-here.ensures.is ∙ same))))
+    (λ c. search rules)
+    (λ c κs. search rules)
+    (λ c. search rules)
+    (λ c κs. search rules)
+    (λ c κs. search rules)
+    (λ c. let here = c.before.before.before.before.before.before in
+    let args = here.before.before.before.before.before.before.args in
+    let fits = ap (rules_fit (eqb (args.k + 1) args.count)) (sym c.before.before.before.before.wide-rules.ensures.is) ∙ sym c.before.before.before.rules_fit.ensures in
+    let other : number_at 506 args.block.now ≡ args.k → ⊥ = λ same. omega (arith, c.before.number_at-number.ensures, same) in
+    sym (parts here ∙ rw (fits ∙ c.before.before.if-rules_fit.true, ne_eqb (number_at 506 args.block.now) args.k other)))
+    (λ c κs. search rules)
+    (λ c. let here = c.before.before.before.before.before.before.before in
+    let args = here.before.before.before.before.before.before.args in
+    let fits = ap (rules_fit (eqb (args.k + 1) args.count)) (sym c.before.before.before.before.before.wide-rules.ensures.is) ∙ sym c.before.before.before.before.rules_fit.ensures in
+    let same : number_at 506 args.block.now ≡ args.k = sym c.before.before.number_at-number.ensures ∙ (omega arith) in
+    sym (parts here ∙ rw (fits ∙ c.before.before.before.if-rules_fit.true, eq-eqb (number_at 506 args.block.now) args.k same, sym c.number_at-blocks.ensures)))
+    (λ c. let here = c.before.before.before.before in
+    let args = here.before.before.before.before.before.before.args in
+    let fits = ap (rules_fit (eqb (args.k + 1) args.count)) (sym c.before.before.wide-rules.ensures.is) ∙ sym c.before.rules_fit.ensures in
+    sym (parts here ∙ rw (fits ∙ c.if-rules_fit.false))))

@@ -27,99 +27,38 @@ by_places : (r : ℕ) (bs : List ℕ) (k : ℕ) → 4 < r → block_check r bs k
 unfolding block_check
 by_places r bs k h = let low : 3 < r = omega arith in rw (lt-leb r 3 low, lt-leb r 4 h) (places_are bs k)
 
-mul_a : tie.Need-overflow_mul-a
-mul_a c = search rules
-
-add_e : tie.Need-overflow_add-e
-add_e c = search rules
-
-sub_sum_good : tie.Need-slice_bounds-sum_good-count
-sub_sum_good c = search rules
-
-part_sum_good_start : tie.Need-slice_bounds-sum_good-start
-part_sum_good_start c = search rules
-
-part_sum_good_end : tie.Need-slice_bounds-sum_good-end
-part_sum_good_end c = search rules
-
-sum_good_requires : tie.Need-sum_good-requires
-sum_good_requires c κs = search rules
-
-returns : tie.Need-returns-then-check-le3
-returns c =
-    let args = c.before.before.before.before.args in
-    c.sum_good.ensures ∙ rw (block_part args.image.now args.k) (sym (by_sum args.check args.image.now args.k c.before.before.if-check-le3.true))
-
-shared_slice_read_wide : tie.Need-bounds-image-0
-shared_slice_read_wide c = search rules
-
-wide_requires : tie.Need-wide-jobs-requires
-wide_requires c κs = search rules
-
-sub_head_good : tie.Need-slice_bounds-head_good-count
-sub_head_good c = search rules
-
-part_head_good_start : tie.Need-slice_bounds-head_good-start
-part_head_good_start c = search rules
-
-part_head_good_end : tie.Need-slice_bounds-head_good-end
-part_head_good_end c = search rules
-
-head_good_requires : tie.Need-head_good-requires
-head_good_requires c κs = search rules
-
-returns_2 : tie.Need-returns-then-check-le4
-returns_2 c =
-    let start = c.before.before.before.before.before.before.before in
-    let args = start.args in
-    let count_is : length args.image.now ≡ 512 * args.count = omega arith in
-    c.head_good.ensures
-    ∙ rw (block_part args.image.now args.k, c.before.before.before.wide-jobs.ensures.is)
-    (sym (by_head args.check args.image.now args.k args.count count_is c.before.before.before.before.before.if-check-le3.false c.before.before.if-check-le4.true))
-
-sub_block_good : tie.Need-slice_bounds-block_good-count
-sub_block_good c = search rules
-
-part_block_good_start : tie.Need-slice_bounds-block_good-start
-part_block_good_start c = search rules
-
-part_block_good_end : tie.Need-slice_bounds-block_good-end
-part_block_good_end c = search rules
-
-block_good_requires : tie.Need-block_good-requires
-block_good_requires c κs =
-    let start = c.before.before.before.before.before.before in
-    let args = start.args in
-    rw (block_part args.image.now args.k)
-    (block_length args.image.now args.k args.count (omega arith) (omega arith), rules_few args.image.now args.k (start.requires.1 (omega arith)))
-
-returns_3 : tie.Need-returns
-returns_3 c =
-    let args = c.before.before.before.before.before.before.before.args in
-    c.block_good.ensures
-    ∙ rw (block_part args.image.now args.k, c.before.before.before.wide-jobs.ensures.is)
-    (sym (by_places args.check args.image.now args.k c.before.before.if-check-le4.false))
-
 pub block_passes_spec : {M : Type 1} → statement M
 block_passes_spec =
     tie.close
     (tie.spec
-    mul_a
-    add_e
-    sub_sum_good
-    part_sum_good_start
-    part_sum_good_end
-    sum_good_requires
-    returns
-    shared_slice_read_wide
-    wide_requires
-    sub_head_good
-    part_head_good_start
-    part_head_good_end
-    head_good_requires
-    returns_2
-    sub_block_good
-    part_block_good_start
-    part_block_good_end
-    block_good_requires
-    returns_3)
+    (λ c. search rules)
+    (λ c. search rules)
+    (λ c. search rules)
+    (λ c. search rules)
+    (λ c. search rules)
+    (λ c κs. search rules)
+    (λ c. let args = c.before.before.before.before.args in
+    c.sum_good.ensures ∙ rw (block_part args.image.now args.k) (sym (by_sum args.check args.image.now args.k (omega arith))))
+    (λ c. search rules)
+    (λ c κs. search rules)
+    (λ c. search rules)
+    (λ c. search rules)
+    (λ c. search rules)
+    (λ c κs. search rules)
+    (λ c. let start = c.before.before.before.before.before.before.before in
+    let args = start.args in
+    let count_is : length args.image.now ≡ 512 * args.count = omega arith in
+    c.head_good.ensures
+    ∙ rw (block_part args.image.now args.k, c.before.before.before.wide-jobs.ensures.is)
+    (sym (by_head args.check args.image.now args.k args.count count_is (omega arith) c.before.before.if-check-le4.true)))
+    (λ c. search rules)
+    (λ c. search rules)
+    (λ c. search rules)
+    (λ c κs. let start = c.before.before.before.before.before.before in
+    let args = start.args in
+    rw (block_part args.image.now args.k)
+    (block_length args.image.now args.k args.count (omega arith) (omega arith), rules_few args.image.now args.k (start.requires.1 (omega arith))))
+    (λ c. let args = c.before.before.before.before.before.before.before.args in
+    c.block_good.ensures
+    ∙ rw (block_part args.image.now args.k, c.before.before.before.wide-jobs.ensures.is)
+    (sym (by_places args.check args.image.now args.k c.before.before.if-check-le4.false))))

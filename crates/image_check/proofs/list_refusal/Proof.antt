@@ -40,55 +40,24 @@ behind c =
     let args = c.before.before.before.before.args in
     rest args.jobs args.rules.now c.before.before.if-rules-ne0.false c.before.if-count-lt1.false c.if-count-gt252.false
 
-returns : tie.Need-returns-then-rules-ne0
-returns c =
-    let args = c.before.before.args in
-    length_bad args.jobs args.rules.now c.if-rules-ne0.true
-
-returns_2 : tie.Need-returns-then-count-lt1
-returns_2 c =
-    let args = c.before.before.before.args in
-    no_rules args.jobs args.rules.now c.before.if-rules-ne0.false c.if-count-lt1.true
-
-returns_3 : tie.Need-returns-then-count-gt252
-returns_3 c =
-    let args = c.before.before.before.before.args in
-    many_rules args.jobs args.rules.now c.before.before.if-rules-ne0.false c.before.if-count-lt1.false c.if-count-gt252.true
-
-returns_4 : tie.Need-returns-then-jobs-lt1
-returns_4 c =
-    let n = c.before.before.before.before.before.args.jobs in
-    sym (behind c.before ∙ rw (lt-leb 1 n c.if-jobs-lt1.true))
-
-returns_5 : tie.Need-returns-then-jobs-gt24
-returns_5 c =
-    let n = c.before.before.before.before.before.before.args.jobs in
-    sym (behind c.before.before ∙ rw (le-leb 1 n c.before.if-jobs-lt1.false, lt-leb n 24 (omega arith)))
-
-places_good_requires : tie.Need-places_good-requires
-places_good_requires c κs = search rules
-
-returns_6 : tie.Need-returns-then-places_good
-returns_6 c =
-    let n = c.before.before.before.before.before.before.before.before.args.jobs in
-    sym (behind c.before.before.before.before
-    ∙ rw (le-leb 1 n c.before.before.before.if-jobs-lt1.false, le-leb n 24 c.before.before.if-jobs-gt24.false, sym c.before.places_good.ensures ∙ c.if-places_good.true))
-
-returns_7 : tie.Need-returns
-returns_7 c =
-    let n = c.before.before.before.before.before.before.before.before.args.jobs in
-    sym (behind c.before.before.before.before
-    ∙ rw (le-leb 1 n c.before.before.before.if-jobs-lt1.false, le-leb n 24 c.before.before.if-jobs-gt24.false, sym c.before.places_good.ensures ∙ c.if-places_good.false))
-
 pub list_refusal_spec : {M : Type 1} → statement M
 list_refusal_spec =
     tie.close
     (tie.spec
-    returns
-    returns_2
-    returns_3
-    returns_4
-    returns_5
-    places_good_requires
-    returns_6
-    returns_7)
+    (λ c. let args = c.before.before.args in
+    length_bad args.jobs args.rules.now c.if-rules-ne0.true)
+    (λ c. let args = c.before.before.before.args in
+    no_rules args.jobs args.rules.now c.before.if-rules-ne0.false c.if-count-lt1.true)
+    (λ c. let args = c.before.before.before.before.args in
+    many_rules args.jobs args.rules.now c.before.before.if-rules-ne0.false c.before.if-count-lt1.false c.if-count-gt252.true)
+    (λ c. let n = c.before.before.before.before.before.args.jobs in
+    sym (behind c.before ∙ rw (lt-leb 1 n c.if-jobs-lt1.true)))
+    (λ c. let n = c.before.before.before.before.before.before.args.jobs in
+    sym (behind c.before.before ∙ rw (le-leb 1 n c.before.if-jobs-lt1.false, lt-leb n 24 (omega arith))))
+    (λ c κs. search rules)
+    (λ c. let n = c.before.before.before.before.before.before.before.before.args.jobs in
+    sym (behind c.before.before.before.before
+    ∙ rw (le-leb 1 n c.before.before.before.if-jobs-lt1.false, le-leb n 24 (omega arith), sym c.before.places_good.ensures ∙ c.if-places_good.true)))
+    (λ c. let n = c.before.before.before.before.before.before.before.before.args.jobs in
+    sym (behind c.before.before.before.before
+    ∙ rw (le-leb 1 n c.before.before.before.if-jobs-lt1.false, le-leb n 24 (omega arith), sym c.before.places_good.ensures ∙ c.if-places_good.false))))

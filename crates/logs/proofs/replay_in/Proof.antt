@@ -82,41 +82,6 @@ module _ (c : tie.After-or_else-refusal) where
     short : length g ≤ 256
     short = log_short g (sym one.before.refusal-of_log.ensures ∙ parts.1)
 
-returns : tie.Need-returns-then-refusal-ne0
-returns c = record {
-  answer = gives_refused (refusal_is c.before.before) _ c.if-refusal-ne0.true
-      (to_z-of_z w32 c.refused.result (record { sfits = c.refused.type_inv }) ∙ c.refused.ensures);
-  clears = refl;
-}
-
-counted_moves_requires : tie.Need-counted_moves-moves-requires
-counted_moves_requires c κs = short c.before c.if-refusal-ne0.false
-
-part_replay_end : tie.Need-slice_bounds-replay-end
-part_replay_end c = front_inside 52632 c.args.space.now few (passed c.before.before c.if-refusal-ne0.false).0
-
-replay_requires : tie.Need-replay-requires
-replay_requires c κs =
-    let k = ready c.before.before.before.before.before.before.before c.if-refusal-ne0.false in (
-      (front_size 52632 c.args.space.now few (passed c.before.before.before.before.before.before.before c.if-refusal-ne0.false).0, rw c.rules_of.ensures k.good.list, k.within),
-      (c.counted_moves-moves.ensures.size, omega (arith, short c.before.before.before.before.before.before.before c.if-refusal-ne0.false)),
-    )
-
-result_requires : tie.Need-result-requires
-result_requires c κs = omega (arith, c.replay.ensures.small)
-
-returns_2 : tie.Need-returns
-returns_2 c =
-    let k = ready c.before.before.before.before.before.before.before.before.before.before.before c.if-refusal-ne0.false in
-    let long = (passed c.before.before.before.before.before.before.before.before.before.before.before c.if-refusal-ne0.false).0 in
-    let is = rw (c.rules_of.ensures, c.counted_moves-moves.ensures.moves, k.is) at c.replay.ensures.is in
-    record {
-      answer = gives_done (refusal_is c.before.before.before.before.before.before.before.before.before.before.before) _ c.if-refusal-ne0.false
-          (to_z-of_z w32 c.result.result (record { sfits = c.result.type_inv }) ∙ c.result.ensures ∙ ap pos is);
-      clears = front_cleared c.args.space.now c.replay.new.cells 52632 few
-          (c.replay.auto.cells ∙ front_size 52632 c.args.space.now few long) long;
-    }
-
 pub replay_in_spec : {M : Type 1} → statement M
 replay_in_spec =
     tie.close
@@ -131,13 +96,28 @@ replay_in_spec =
     (λ c κs. tt)
     (λ c κs. tt)
     (λ c. refl)
-    returns
-    counted_moves_requires
+    (λ c. record {
+      answer = gives_refused (refusal_is c.before.before) _ (omega arith)
+          (to_z-of_z w32 c.refused.result (record { sfits = c.refused.type_inv }) ∙ c.refused.ensures);
+      clears = refl;
+    })
+    (λ c κs. short c.before (omega arith))
     (λ c. from_front 52632)
     (λ c. from_front 52632)
-    part_replay_end
+    (λ c. front_inside 52632 c.args.space.now few (passed c.before.before (omega arith)).0)
     (λ c κs. held_inside (held c.before.before.before.before.before))
-    replay_requires
-    result_requires
+    (λ c κs. let k = ready c.before.before.before.before.before.before.before (omega arith) in (
+      (front_size 52632 c.args.space.now few (passed c.before.before.before.before.before.before.before (omega arith)).0, rw c.rules_of.ensures k.good.list, k.within),
+      (c.counted_moves-moves.ensures.size, omega (arith, short c.before.before.before.before.before.before.before (omega arith))),
+    ))
+    (λ c κs. omega (arith, c.replay.ensures.small))
     (λ c. let r = c.before.before.before in length_front (start r.before.before.before.before.before.before.before.before).args.space.now r.replay.new.cells 52632 r.replay.auto.cells)
-    returns_2)
+    (λ c. let k = ready c.before.before.before.before.before.before.before.before.before.before.before (omega arith) in
+    let long = (passed c.before.before.before.before.before.before.before.before.before.before.before (omega arith)).0 in
+    let is = rw (c.rules_of.ensures, c.counted_moves-moves.ensures.moves, k.is) at c.replay.ensures.is in
+    record {
+      answer = gives_done (refusal_is c.before.before.before.before.before.before.before.before.before.before.before) _ (omega arith)
+          (to_z-of_z w32 c.result.result (record { sfits = c.result.type_inv }) ∙ c.result.ensures ∙ ap pos is);
+      clears = front_cleared c.args.space.now c.replay.new.cells 52632 few
+          (c.replay.auto.cells ∙ front_size 52632 c.args.space.now few long) long;
+    }))

@@ -7,15 +7,8 @@ use Rattle.look_input.specs.Input.{image_got}
 use Rattle.look_input.proofs.image_got.Statement.{statement}
 use Rattle.look_input.proofs.image_got.Tie as tie
 
-returns : tie.Need-returns-then-size-count
-unfolding image_got
-returns c = let a = c.before.args in sym (ap (λ (b : Bool). cond b 0 a.size) (le-ltb a.count a.size (omega (arith, c.if-size-count.true))))
-
-returns_2 : tie.Need-returns-else-size-count
-unfolding image_got
-returns_2 c = let a = c.before.args in sym (ap (λ (b : Bool). cond b 0 a.size) (lt-ltb a.count a.size (omega (arith, c.if-size-count.false))))
-
 pub image_got_spec : {M : Type 1} → statement M
+unfolding image_got
 image_got_spec = tie.close (tie.spec
-    returns
-    returns_2)
+    (λ c. let a = c.before.args in sym (ap (λ (b : Bool). cond b 0 a.size) (le-ltb a.count a.size (omega arith))))
+    (λ c. let a = c.before.args in sym (ap (λ (b : Bool). cond b 0 a.size) (lt-ltb a.count a.size (omega arith)))))

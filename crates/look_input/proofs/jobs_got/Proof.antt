@@ -8,15 +8,8 @@ use Rattle.look_input.specs.Input.{jobs_got}
 use Rattle.look_input.proofs.jobs_got.Statement.{statement}
 use Rattle.look_input.proofs.jobs_got.Tie as tie
 
-returns : tie.Need-returns-then-count-size
-unfolding jobs_got
-returns c = let a = c.before.args in sym (ap (λ (b : Bool). cond b Cut (Plan a.size)) (lt-ltb a.count a.size (omega (arith, c.if-count-size.true))))
-
-returns_2 : tie.Need-returns-else-count-size
-unfolding jobs_got
-returns_2 c = let a = c.before.args in sym (ap (λ (b : Bool). cond b Cut (Plan a.size)) (le-ltb a.count a.size (omega (arith, c.if-count-size.false))))
-
 pub jobs_got_spec : {M : Type 1} → statement M
+unfolding jobs_got
 jobs_got_spec = tie.close (tie.spec
-    returns
-    returns_2)
+    (λ c. let a = c.before.args in sym (ap (λ (b : Bool). cond b Cut (Plan a.size)) (lt-ltb a.count a.size (omega arith))))
+    (λ c. let a = c.before.args in sym (ap (λ (b : Bool). cond b Cut (Plan a.size)) (le-ltb a.count a.size (omega arith)))))

@@ -18,32 +18,15 @@ both zero n h j b e = absurd (h refl)
 both (suc zero) n h j b e = absurd (j refl)
 both (suc (suc k)) n h j b e = ap (λ (x : Bool). cond x (Plan n) Long) (sym e)
 
-returns : tie.Need-returns-then-count-eq0
-unfolding length_got
-returns c = ap (λ (k : ℕ). length_got k (plan_length c.before.before.args.part.now)) (sym c.if-count-eq0.true)
-
-returns_2 : tie.Need-returns-then-count-eq1
-unfolding length_got
-returns_2 c = ap (λ (k : ℕ). length_got k (plan_length c.before.before.before.args.part.now)) (sym c.if-count-eq1.true)
-
-returns_3 : tie.Need-returns-then-size-le4096
-unfolding plan_length
-returns_3 c =
-    let n = plan_length c.before.before.before.before.before.args.part.now in
-    let e = c.before.number_at-size.ensures in
-    ap Plan e ∙ both _ n c.before.before.before.if-count-eq0.false c.before.before.if-count-eq1.false true (le-leb n 4096 (omega (arith, e, c.if-size-le4096.true)))
-
-returns_4 : tie.Need-returns-else-size-le4096
-unfolding plan_length
-returns_4 c =
-    let n = plan_length c.before.before.before.before.before.args.part.now in
-    let e = c.before.number_at-size.ensures in
-    both _ n c.before.before.before.if-count-eq0.false c.before.before.if-count-eq1.false false (lt-leb n 4096 (omega (arith, e, c.if-size-le4096.false)))
-
 pub length_got_spec : {M : Type 1} → statement M
+unfolding length_got plan_length
 length_got_spec = tie.close (tie.spec
-    returns
-    returns_2
+    (λ c. ap (λ (k : ℕ). length_got k (plan_length c.before.before.args.part.now)) (sym c.if-count-eq0.true))
+    (λ c. ap (λ (k : ℕ). length_got k (plan_length c.before.before.before.args.part.now)) (sym c.if-count-eq1.true))
     (λ c κs. search rules)
-    returns_3
-    returns_4)
+    (λ c. let n = plan_length c.before.before.before.before.before.args.part.now in
+    let e = c.before.number_at-size.ensures in
+    ap Plan e ∙ both _ n c.before.before.before.if-count-eq0.false c.before.before.if-count-eq1.false true (le-leb n 4096 (omega (arith, e))))
+    (λ c. let n = plan_length c.before.before.before.before.before.args.part.now in
+    let e = c.before.number_at-size.ensures in
+    both _ n c.before.before.before.if-count-eq0.false c.before.before.if-count-eq1.false false (lt-leb n 4096 (omega (arith, e)))))

@@ -21,47 +21,8 @@ result_is c =
     let s = c.before.before.before.before.before.before.before.before.before in
     c.result_in.ensures ∙ ap result_in (to_z-of_z w32 s.args.answer s.ranges.answer)
 
-returns : tie.Need-returns-then-refusal-ne0
-unfolding pair_line
-returns c =
-    let second = c.before.before.before.before.before.before.before in
-    let t = second.before.before.before in
-    let first = t.before.before.before.before in
-    let z = first.before.before.before.before.args.answer in
-    record {
-      put = put_line first.put_field-first.ensures.1
-          (put_as (verdict_refused t.before.refusal_in-refusal.result (result_in z) t.if-refusal-ne0.true ∙ ap (λ (n : ℕ). verdict n (result_in z)) (refusal_is t.before.before.before))
-          (put_both (search rules) second.put_field-next.ensures.1 c.before.before.put.ensures));
-      within = search rules;
-    }
-
-returns_2 : tie.Need-returns-then-result_in-ne0
-unfolding pair_line
-returns_2 c =
-    let t = c.before.before.before.before.before in
-    let o = t.before.before in
-    let first = o.before.before.before.before in
-    record {
-      put = put_line first.put_field-first.ensures.1
-          (put_as (verdict_same o.before.refusal_in-refusal.result t.before.result_in.result o.if-refusal-ne0.false t.if-result_in-ne0.true ∙ ap₂ verdict (refusal_is o.before.before) (result_is t.before.before))
-          c.before.before.put-then-result_in-ne0.ensures);
-      within = search rules;
-    }
-
-returns_3 : tie.Need-returns
-unfolding pair_line
-returns_3 c =
-    let t = c.before.before.before.before.before in
-    let o = t.before.before in
-    let first = o.before.before.before.before in
-    record {
-      put = put_line first.put_field-first.ensures.1
-          (put_as (verdict_apart o.before.refusal_in-refusal.result t.before.result_in.result o.if-refusal-ne0.false t.if-result_in-ne0.false ∙ ap₂ verdict (refusal_is o.before.before) (result_is t.before.before))
-          c.before.before.put-2.ensures);
-      within = search rules;
-    }
-
 pub pair_line_spec : {M : Type 1} → statement M
+unfolding pair_line
 pair_line_spec =
     tie.close
     (tie.spec
@@ -70,11 +31,36 @@ pair_line_spec =
     (λ c κs. search rules)
     (λ c κs. search rules)
     (λ c. search rules)
-    returns
+    (λ c. let second = c.before.before.before.before.before.before.before in
+    let t = second.before.before.before in
+    let first = t.before.before.before.before in
+    let z = first.before.before.before.before.args.answer in
+    record {
+      put = put_line first.put_field-first.ensures.1
+          (put_as (verdict_refused t.before.refusal_in-refusal.result (result_in z) t.if-refusal-ne0.true ∙ ap (λ (n : ℕ). verdict n (result_in z)) (refusal_is t.before.before.before))
+          (put_both (search rules) second.put_field-next.ensures.1 c.before.before.put.ensures));
+      within = search rules;
+    })
     (λ c κs. search rules)
     (λ c κs. search rules)
     (λ c. search rules)
-    returns_2
+    (λ c. let t = c.before.before.before.before.before in
+    let o = t.before.before in
+    let first = o.before.before.before.before in
+    record {
+      put = put_line first.put_field-first.ensures.1
+          (put_as (verdict_same o.before.refusal_in-refusal.result t.before.result_in.result o.if-refusal-ne0.false t.if-result_in-ne0.true ∙ ap₂ verdict (refusal_is o.before.before) (result_is t.before.before))
+          c.before.before.put-then-result_in-ne0.ensures);
+      within = search rules;
+    })
     (λ c κs. search rules)
     (λ c. search rules)
-    returns_3)
+    (λ c. let t = c.before.before.before.before.before in
+    let o = t.before.before in
+    let first = o.before.before.before.before in
+    record {
+      put = put_line first.put_field-first.ensures.1
+          (put_as (verdict_apart o.before.refusal_in-refusal.result t.before.result_in.result o.if-refusal-ne0.false t.if-result_in-ne0.false ∙ ap₂ verdict (refusal_is o.before.before) (result_is t.before.before))
+          c.before.before.put-2.ensures);
+      within = search rules;
+    }))

@@ -15,65 +15,31 @@ invariant_loop numbers plan sum₀ k₀ sum k = (k ≤ length plan) × (sum ≤ 
 abbrev decreases_loop : tie.decreases-loop-k
 decreases_loop numbers plan sum₀ k₀ sum k = length plan - k
 
-loop_holds : tie.Need-loop-k-init invariant_loop decreases_loop
-loop_holds c = (omega arith, omega arith, omega arith)
-
-shared_slice_read_job : tie.Need-bounds-plan-k invariant_loop decreases_loop
-shared_slice_read_job c = omega arith
-
-cast_job : tie.Need-overflow_cast-job invariant_loop decreases_loop
-cast_job c = omega (arith, c.shared_slice_known-in-loop-k-1.given c.before.before.loop-k.k)
-
-add_k : tie.Need-overflow_add-k invariant_loop decreases_loop
-add_k c = omega arith
-
-norm_of_requires : tie.Need-norm_of-sum-requires invariant_loop decreases_loop
-norm_of_requires c κs =
-    let s = c.before.before.before.before in
-    below_at 24 s.args.plan.now c.before.before.loop-k.k s.requires c.before.loop-k-test.true
-
-add_sum : tie.Need-overflow_add-sum invariant_loop decreases_loop
-add_sum c = omega (arith, c.norm_of-sum.ensures.small)
-
-returns : tie.Need-returns-then-sum-gt4096 invariant_loop decreases_loop
-returns c =
-    let at_loop = c.before.before.before.before in
-    let s = at_loop.before.before in
-    let h = c.before.before.before.loop-k-test.true in
-    let e = sum_at s.args.numbers.now s.args.plan.now at_loop.loop-k.k h in
-    omega (arith, c.before.norm_of-sum.ensures.is, at_loop.loop-k.invariant)
-
-loop_less : tie.Need-loop-k-smaller invariant_loop decreases_loop
-loop_less c = omega arith
-
-loop_again : tie.Need-loop-k-preserved invariant_loop decreases_loop
-loop_again c =
-    let at_loop = c.before.before.before.before in
-    let s = at_loop.before.before in
-    let h = c.before.before.before.loop-k-test.true in
-    let e = sum_at s.args.numbers.now s.args.plan.now at_loop.loop-k.k h in
-    (omega arith, omega arith, omega (arith, c.before.norm_of-sum.ensures.is, at_loop.loop-k.invariant))
-
-returns_2 : tie.Need-returns invariant_loop decreases_loop
-returns_2 c =
-    let at_loop = c.before in
-    let s = at_loop.before.before in
-    let e = sum_end s.args.numbers.now s.args.plan.now at_loop.loop-k.k c.loop-k-test.false in
-    omega (arith, at_loop.loop-k.invariant)
-
 pub long_sum_spec : {M : Type 1} → statement M
 long_sum_spec =
     tie.close
     (tie.spec
     invariant_loop
     decreases_loop
-    loop_holds
-    shared_slice_read_job
-    cast_job
-    add_k
-    norm_of_requires
-    add_sum
-    returns
-    loop_less
-    loop_again
-    returns_2)
+    (λ c. (omega arith, omega arith, omega arith))
+    (λ c. omega arith)
+    (λ c. omega (arith, c.shared_slice_known-in-loop-k-1.given c.before.before.loop-k.k))
+    (λ c. omega arith)
+    (λ c κs. let s = c.before.before.before.before in
+    below_at 24 s.args.plan.now c.before.before.loop-k.k s.requires c.before.loop-k-test.true)
+    (λ c. omega (arith, c.norm_of-sum.ensures.small))
+    (λ c. let at_loop = c.before.before.before.before in
+    let s = at_loop.before.before in
+    let h = c.before.before.before.loop-k-test.true in
+    let e = sum_at s.args.numbers.now s.args.plan.now at_loop.loop-k.k h in
+    omega (arith, c.before.norm_of-sum.ensures.is, at_loop.loop-k.invariant))
+    (λ c. omega arith)
+    (λ c. let at_loop = c.before.before.before.before in
+    let s = at_loop.before.before in
+    let h = c.before.before.before.loop-k-test.true in
+    let e = sum_at s.args.numbers.now s.args.plan.now at_loop.loop-k.k h in
+    (omega arith, omega arith, omega (arith, c.before.norm_of-sum.ensures.is, at_loop.loop-k.invariant)))
+    (λ c. let at_loop = c.before in
+    let s = at_loop.before.before in
+    let e = sum_end s.args.numbers.now s.args.plan.now at_loop.loop-k.k c.loop-k-test.false in
+    omega (arith, at_loop.loop-k.invariant)))

@@ -65,13 +65,6 @@ module _ (rs slots : List ℕ) (i : ℕ) where
         (leads_on slots (p.ahead e h s));
   }
 
-loop_holds : tie.Need-loop-i-init invariant_loop decreases_loop
-loop_holds c =
-    let m = c.before in
-    let start = m.before.before in
-    begins start.args.rules.now start.args.slots.now start.args.i c.rule_job.result m.rule_move-action.result c.rule_job.ensures.is
-    m.rule_move-action.ensures.is start.requires.1.0
-
 -- the slot that a turn looks at
 module _ (c : tie.At-loop-i invariant_loop decreases_loop) where
   abbrev start : tie.Start invariant_loop decreases_loop
@@ -104,53 +97,6 @@ module _ (c : tie.After-wide-k invariant_loop decreases_loop) where
         subst (λ (x : ℕ). (x < (start turn).args.i) × (turn.loop-i.slot < 1536 + 2 * x)) (sym holds)
         ((start turn).requires.1.1 turn.loop-i.slot (slot_inside turn) (omega (arith, holds, small)))
 
-returns : tie.Need-returns-then-k-ge252 invariant_loop decreases_loop
-returns c =
-    let w = c.before in
-    let p = (turn w).loop-i.invariant in
-    record {
-      within = omega arith;
-      found = λ l. absurd (omega (arith, l));
-      free = λ z. record {
-        low = p.low;
-        empty = empty_slot w c.if-k-ge252.true;
-        rest = (turn w).loop-i.rest;
-        way = p.way;
-        none = λ e k s.
-            let l = p.ahead e k s in
-            ⊎_elim (λ (q : get_or (slots w) (turn w).loop-i.slot 0 ≡ e). omega (arith, q, l.small, empty_slot w c.if-k-ge252.true))
-            (λ (q : (get_or (slots w) (turn w).loop-i.slot 0 < 252) × Leads (slots w) (slot_below (get_or (slots w) (turn w).loop-i.slot 0) (turn w).loop-i.rest) ((turn w).loop-i.rest / 2) e).
-            omega (arith, q.0, empty_slot w c.if-k-ge252.true))
-            (leads_on (slots w) l);
-      };
-    }
-
-same_start_requires : tie.Need-same_start-requires invariant_loop decreases_loop
-same_start_requires c κs =
-    let w = c.before in
-    (omega (arith, (rises w c.if-k-ge252.false).0, (start (turn w)).requires.0), (start (turn w)).requires.0.0)
-
-returns_2 : tie.Need-returns-then-same_start invariant_loop decreases_loop
-returns_2 c =
-    let e = c.before.before in
-    let before = (rises e.before e.if-k-ge252.false).0 in record {
-      within = omega (arith, before);
-      found = λ l. c.before.same_start.ensures.yes c.if-same_start.true;
-      free = λ z. absurd (omega (arith, z, before));
-    }
-
-loop_less : tie.Need-loop-i-smaller invariant_loop decreases_loop
-loop_less c =
-    let e = c.before.before in
-    omega (arith, rises e.before e.if-k-ge252.false, slot_inside (turn e.before))
-
-loop_again : tie.Need-loop-i-preserved invariant_loop decreases_loop
-loop_again c =
-    let e = c.before.before in
-    let w = e.before in
-    goes_on (rs w) (slots w) (start (turn w)).args.i (turn w).loop-i.slot (turn w).loop-i.rest w.wide-k.result (holds w) e.if-k-ge252.false
-    (rises w e.if-k-ge252.false).0 (λ s. never_both c.before.same_start.result (c.before.same_start.ensures.no s) c.if-same_start.false) (turn w).loop-i.invariant
-
 pub find_spec : {M : Type 1} → statement M
 find_spec =
     tie.close
@@ -162,14 +108,44 @@ find_spec =
     (λ c κs. search rules)
     (λ c. search rules)
     (λ c. search rules)
-    loop_holds
+    (λ c. let m = c.before in
+    let start = m.before.before in
+    begins start.args.rules.now start.args.slots.now start.args.i c.rule_job.result m.rule_move-action.result c.rule_job.ensures.is
+    m.rule_move-action.ensures.is start.requires.1.0)
     (λ c. slot_inside c.before)
     (λ c κs. search rules)
-    returns
-    same_start_requires
-    returns_2
-    (λ c. omega (arith, c.before.before.if-k-ge252.false))
-    (λ c. omega (arith, c.before.before.if-k-ge252.false))
-    (λ c. omega (arith, c.before.before.if-k-ge252.false))
-    loop_less
-    loop_again)
+    (λ c. let w = c.before in
+    let p = (turn w).loop-i.invariant in
+    record {
+      within = omega arith;
+      found = λ l. absurd (omega (arith, l));
+      free = λ z. record {
+        low = p.low;
+        empty = empty_slot w (omega arith);
+        rest = (turn w).loop-i.rest;
+        way = p.way;
+        none = λ e k s.
+            let l = p.ahead e k s in
+            ⊎_elim (λ (q : get_or (slots w) (turn w).loop-i.slot 0 ≡ e). omega (arith, q, l.small, empty_slot w (omega arith)))
+            (λ (q : (get_or (slots w) (turn w).loop-i.slot 0 < 252) × Leads (slots w) (slot_below (get_or (slots w) (turn w).loop-i.slot 0) (turn w).loop-i.rest) ((turn w).loop-i.rest / 2) e).
+            omega (arith, q.0, empty_slot w (omega arith)))
+            (leads_on (slots w) l);
+      };
+    })
+    (λ c κs. let w = c.before in
+    (omega (arith, (rises w (omega arith)).0, (start (turn w)).requires.0), (start (turn w)).requires.0.0))
+    (λ c. let e = c.before.before in
+    let before = (rises e.before (omega arith)).0 in record {
+      within = omega (arith, before);
+      found = λ l. c.before.same_start.ensures.yes c.if-same_start.true;
+      free = λ z. absurd (omega (arith, z, before));
+    })
+    (λ c. omega arith)
+    (λ c. omega arith)
+    (λ c. omega arith)
+    (λ c. let e = c.before.before in
+    omega (arith, rises e.before (omega arith), slot_inside (turn e.before)))
+    (λ c. let e = c.before.before in
+    let w = e.before in
+    goes_on (rs w) (slots w) (start (turn w)).args.i (turn w).loop-i.slot (turn w).loop-i.rest w.wide-k.result (holds w) (omega arith)
+    (rises w (omega arith)).0 (λ s. never_both c.before.same_start.result (c.before.same_start.ensures.no s) c.if-same_start.false) (turn w).loop-i.invariant))

@@ -7,20 +7,12 @@ use Rattle.refusal.proofs.PlanRefusals.{norm_small, norm_large}
 use Rattle.refusal.proofs.norm_refusal.Statement.{statement}
 use Rattle.refusal.proofs.norm_refusal.Tie as tie
 
-returns : tie.Need-returns-then-capped_sum-le4096
-returns c =
-    let s = c.before.before.before in
-    let h : sum_of s.args.norms.now s.args.plan.now ≤ 4096 = omega (arith, c.before.capped_sum.ensures) in
-    norm_small s.args.norms.now s.args.plan.now h
-
-returns_2 : tie.Need-returns
-returns_2 c =
-    let s = c.before.before.before in
-    let h : 4096 < sum_of s.args.norms.now s.args.plan.now = omega (arith, c.before.capped_sum.ensures) in
-    norm_large s.args.norms.now s.args.plan.now h
-
 pub norm_refusal_spec : {M : Type 1} → statement M
 norm_refusal_spec = tie.close (tie.spec
     (λ c κs. search rules)
-    returns
-    returns_2)
+    (λ c. let s = c.before.before.before in
+    let h : sum_of s.args.norms.now s.args.plan.now ≤ 4096 = omega (arith, c.before.capped_sum.ensures) in
+    norm_small s.args.norms.now s.args.plan.now h)
+    (λ c. let s = c.before.before.before in
+    let h : 4096 < sum_of s.args.norms.now s.args.plan.now = omega (arith, c.before.capped_sum.ensures) in
+    norm_large s.args.norms.now s.args.plan.now h))

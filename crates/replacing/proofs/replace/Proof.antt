@@ -7,35 +7,22 @@ use Rattle.replacing.proofs.ListSources.{without_list, list_refused, list_replac
 use Rattle.replacing.proofs.replace.Statement.{statement}
 use Rattle.replacing.proofs.replace.Tie as tie
 
-returns : tie.Need-returns-then-list-eq0
-returns c = λ f t jobs ns l. without_list l c.before.before.args.list.now c.if-list-eq0.true
-
-replace_moves_requires : tie.Need-replace_moves-requires
-replace_moves_requires c κs =
-    let d = c.before.before.before.before.before in
-    let o = d.before in
-    let start = o.before.before.before.before in
-    (omega (arith, start.requires), (o.before.read_list-pairs.ensures.holds (neither _ _ (sym o.or_else-both.ensures ∙ d.if-both-eq0.true)).1).arrays)
-
-returns_2 : tie.Need-returns-then-both-eq0
-returns_2 c = λ f t jobs ns l.
-    let d = c.before.before.before.before.before.before in
-    let o = d.before in
-    list_replaced l o.before.before.before.before.args.list.now o.before.read_list-pairs.ensures o.or_else-both.ensures d.if-both-eq0.true
-    c.replace_moves.ensures
-
-returns_3 : tie.Need-returns-else-both-eq0
-returns_3 c = λ f t jobs ns l.
-    let o = c.before in
-    list_refused l o.before.before.before.before.args.list.now o.before.read_list-pairs.ensures o.or_else-both.ensures c.if-both-eq0.false
-
 pub replace_spec : {M : Type 1} → statement M
 replace_spec =
     tie.close
     (tie.spec
-    returns
-    (λ c κs. omega (arith, c.if-list-eq0.false))
+    (λ c. λ f t jobs ns l. without_list l c.before.before.args.list.now (omega arith))
+    (λ c κs. omega arith)
     (λ c κs. search rules)
-    replace_moves_requires
-    returns_2
-    returns_3)
+    (λ c κs. let d = c.before.before.before.before.before in
+    let o = d.before in
+    let start = o.before.before.before.before in
+    (omega (arith, start.requires), (o.before.read_list-pairs.ensures.holds (neither _ _ (sym o.or_else-both.ensures ∙ d.if-both-eq0.true)).1).arrays))
+    (λ c. λ f t jobs ns l.
+    let d = c.before.before.before.before.before.before in
+    let o = d.before in
+    list_replaced l o.before.before.before.before.args.list.now o.before.read_list-pairs.ensures o.or_else-both.ensures d.if-both-eq0.true
+    c.replace_moves.ensures)
+    (λ c. λ f t jobs ns l.
+    let o = c.before in
+    list_refused l o.before.before.before.before.args.list.now o.before.read_list-pairs.ensures o.or_else-both.ensures c.if-both-eq0.false))

@@ -56,39 +56,6 @@ module _ (c : tie.Start) where
       Settles rs facts (row old (old_half area)) (row new (new_half area)) y out
   kept = settles_kept rs facts next old new area moved y c.requires
 
-sub_alone : tie.Need-slice_bounds-alone-count
-sub_alone c = search rules
-
-part_alone_start : tie.Need-slice_bounds-alone-start
-part_alone_start c = search rules
-
-part_alone_end : tie.Need-slice_bounds-alone-end
-part_alone_end c = search rules
-
-alone_requires : tie.Need-alone-requires
-alone_requires c κs = search rules
-
-returns : tie.Need-returns-then-alone
-returns c = prime c.before.before.before.before.before (c.before.alone.ensures.yes c.if-alone.true)
-
-element_copy_out_if2 : tie.Need-bounds-moved-y
-element_copy_out_if2 c = search rules
-
-returns_2 : tie.Need-returns-then-moved-y-gt0
-returns_2 c = unsettled c.before.before.before.before.before.before.before.before
-
-mul_wide : tie.Need-overflow_mul-y
-mul_wide c = search rules
-
-shared_slice_read_wide : tie.Need-bounds-area-y
-shared_slice_read_wide c = search rules
-
-wide_requires : tie.Need-wide-x-requires
-wide_requires c κs = search rules
-
-first_rule_requires : tie.Need-first_rule-requires
-first_rule_requires c κs = search rules
-
 -- the first job of the old row
 module _ (c : tie.After-wide-x) where
   abbrev start : tie.Start
@@ -100,48 +67,29 @@ module _ (c : tie.After-wide-x) where
   x_job : x < jobs_in (facts start)
   x_job = first_job start x c.wide-x.ensures.is
 
-untouched_requires : tie.Need-untouched-requires
-untouched_requires c κs =
-    let entry = start c.before in
-    chain entry (y entry) c.first_rule.result entry.requires.is_job c.first_rule.ensures
-
-first_rule_requires_2 : tie.Need-first_rule-requires-then-untouched
-first_rule_requires_2 c κs =
-    let at = c.before.before.before in
-    omega (arith, x_job at, (start at).requires.within.few)
-
-untouched_requires_2 : tie.Need-untouched-requires-then-untouched
-untouched_requires_2 c κs =
-    let at = c.before.before.before.before in
-    chain (start at) (x at) c.first_rule-then-untouched.result (x_job at) c.first_rule-then-untouched.ensures
-
-returns_3 : tie.Need-returns-then-untouched
-returns_3 c =
-    let at = c.before.before.before.before.before in
-    let still : get_or (moved (start at)) (y (start at)) 0 ≡ 0 = omega (arith, at.before.before.if-moved-y-gt0.false) in
-    kept (start at) c.untouched-then-untouched.result (x at) still at.wide-x.ensures.is
-    (c.before.before.before.untouched.ensures c.before.before.if-untouched.true) c.untouched-then-untouched.ensures
-
-returns_4 : tie.Need-returns
-returns_4 c = unsettled (start c.before.before.before)
-
 pub settled_spec : {M : Type 1} → statement M
 settled_spec =
     tie.close
     (tie.spec
-    sub_alone
-    part_alone_start
-    part_alone_end
-    alone_requires
-    returns
-    element_copy_out_if2
-    returns_2
-    mul_wide
-    shared_slice_read_wide
-    wide_requires
-    first_rule_requires
-    untouched_requires
-    first_rule_requires_2
-    untouched_requires_2
-    returns_3
-    returns_4)
+    (λ c. search rules)
+    (λ c. search rules)
+    (λ c. search rules)
+    (λ c κs. search rules)
+    (λ c. prime c.before.before.before.before.before (c.before.alone.ensures.yes c.if-alone.true))
+    (λ c. search rules)
+    (λ c. unsettled c.before.before.before.before.before.before.before.before)
+    (λ c. search rules)
+    (λ c. search rules)
+    (λ c κs. search rules)
+    (λ c κs. search rules)
+    (λ c κs. let entry = start c.before in
+    chain entry (y entry) c.first_rule.result entry.requires.is_job c.first_rule.ensures)
+    (λ c κs. let at = c.before.before.before in
+    omega (arith, x_job at, (start at).requires.within.few))
+    (λ c κs. let at = c.before.before.before.before in
+    chain (start at) (x at) c.first_rule-then-untouched.result (x_job at) c.first_rule-then-untouched.ensures)
+    (λ c. let at = c.before.before.before.before.before in
+    let still : get_or (moved (start at)) (y (start at)) 0 ≡ 0 = omega arith in
+    kept (start at) c.untouched-then-untouched.result (x at) still at.wide-x.ensures.is
+    (c.before.before.before.untouched.ensures c.before.before.if-untouched.true) c.untouched-then-untouched.ensures)
+    (λ c. unsettled (start c.before.before.before)))

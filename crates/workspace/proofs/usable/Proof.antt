@@ -9,15 +9,8 @@ use Rattle.workspace.specs.Usable.{usable}
 use Rattle.workspace.proofs.usable.Statement.{statement}
 use Rattle.workspace.proofs.usable.Tie as tie
 
-returns : tie.Need-returns-then-space-lt65536
-unfolding usable space_size
-returns c = ap (λ (b : Bool). cond b 0 65536) (sym (lt-ltb (length c.before.args.space.now) 65536 (omega arith)))
-
-returns_2 : tie.Need-returns
-unfolding usable space_size
-returns_2 c = ap (λ (b : Bool). cond b 0 65536) (sym (le-ltb (length c.before.args.space.now) 65536 (omega arith)))
-
 pub usable_spec : {M : Type 1} → statement M
+unfolding usable space_size
 usable_spec = tie.close (tie.spec
-    returns
-    returns_2)
+    (λ c. ap (λ (b : Bool). cond b 0 65536) (sym (lt-ltb (length c.before.args.space.now) 65536 (omega arith))))
+    (λ c. ap (λ (b : Bool). cond b 0 65536) (sym (le-ltb (length c.before.args.space.now) 65536 (omega arith)))))
