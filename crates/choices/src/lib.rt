@@ -13,6 +13,9 @@ use norm::norm_of;
 use rule_runs::make_run;
 use rules::{rule_job, rule_move};
 
+// The most moves of a run that is kept.
+const KEPT: u32 = 85;
+
 // The run by a rule of a short job, as its row.
 fn keep_row(
     jobs: usize,
@@ -29,7 +32,7 @@ fn keep_row(
 {
     let job = rule_job(rules, rule);
     let norm = norm_of(norms, job);
-    if 85 < norm {
+    if KEPT < norm {
         return;
     }
     if norm == 1 {

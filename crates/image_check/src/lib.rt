@@ -78,6 +78,9 @@ pub fn layout_refusal(image: &[u8]) -> u8
     5
 }
 
+// The most rules of a list.
+const RULES: usize = 252;
+
 // REFUSALS 2, 4 AND 5 of a job count and a list of 8-byte rules, 0 where there is none.
 pub fn list_refusal(jobs: u32, rules: &[u8]) -> u8
     ensures { result ≡ list_refusal jobs rules.now }
@@ -89,7 +92,7 @@ pub fn list_refusal(jobs: u32, rules: &[u8]) -> u8
     if count < 1 {
         return 2;
     }
-    if 252 < count {
+    if RULES < count {
         return 2;
     }
     if jobs < 1 {

@@ -30,7 +30,7 @@ norm_is c =
 
 -- the run that was made
 module _ (c : tie.After-make_run-n) where
-  abbrev tested : tie.Else-norm-gt85
+  abbrev tested : tie.Else-norm-gt-KEPT
   tested = c.before.before.before
 
   abbrev start : tie.Start
@@ -60,7 +60,7 @@ module _ (c : tie.After-make_run-n) where
       ∙ ap (λ (k : ℕ). 2 * k) (run_by_length start.args.jobs rs ns start.requires.0 rule start.requires.1.0.place ∙ sym start.requires.1.0.falls)
 
   new_short : length new ≤ 170
-  new_short = omega (arith, new_length, norm_is tested.before, tested.if-norm-gt85.false)
+  new_short = omega (arith, new_length, norm_is tested.before, tested.if-norm-gt-KEPT.false)
 
   result_is : c.make_run-n.result ≡ 2 * get_or ns (rule_at rs rule).job 0
   result_is = omega (arith, c.make_run-n.ensures.next, ap length new_is, new_length)
@@ -78,7 +78,7 @@ keep_row_spec =
     (tie.spec
     (λ c κs. c.before.before.requires.1.0.place)
     (λ c κs. job_below c)
-    (λ c. record { row = λ l. absurd (omega (arith, norm_is c.before, c.if-norm-gt85.true)); others = λ j d l. refl })
+    (λ c. record { row = λ l. absurd (omega (arith, norm_is c.before, c.if-norm-gt-KEPT.true)); others = λ j d l. refl })
     (λ c κs. c.before.before.before.before.before.before.requires.1.0.place)
     (λ c. omega (arith, c.rule_move.ensures.small))
     (λ c. omega (arith, job_below c.before.before.before.before))
@@ -109,12 +109,12 @@ keep_row_spec =
     (λ c. search rules)
     (λ c κs. let e = c.before.before.before in
     let s = e.before.before.before.before in
-    (s.requires.0, (s.requires.1.0, (s.requires.1.1, omega (arith, norm_is e, c.if-norm-gt85.false)))))
+    (s.requires.0, (s.requires.1.0, (s.requires.1.1, omega (arith, norm_is e, c.if-norm-gt-KEPT.false)))))
     (λ c. omega (arith, below c.before.before))
     (λ c. search rules)
     (λ c. search rules)
     (λ c. let d = c.before.before in
-    omega (arith, result_is d, norm_is (tested d).before, (tested d).if-norm-gt85.false, d.make_run-n.auto.made))
+    omega (arith, result_is d, norm_is (tested d).before, (tested d).if-norm-gt-KEPT.false, d.make_run-n.auto.made))
     (λ c κs. let d = c.before.before.before in
     omega (arith, new_short d, below d, (start d).requires.1.1.size))
     (λ c. search rules)

@@ -33,12 +33,12 @@ module _ (n : ℕ) (rs : List ℕ) where
   rest e some few = rw (eq-eqb (length rs % 8) 0 e, le-leb 1 (length rs / 8) some, le-leb (length rs / 8) 252 few)
 
 -- the list's length is good
-behind : (c : tie.Else-count-gt252) → let args = c.before.before.before.before.args in
+behind : (c : tie.Else-count-gt-RULES) → let args = c.before.before.before.before.args in
     list_refusal args.jobs args.rules.now
     ≡ cond (not (leb 1 args.jobs && leb args.jobs 24)) 4 (cond (not (places_good (length args.rules.now / 8) args.jobs args.rules.now)) 5 0)
 behind c =
     let args = c.before.before.before.before.args in
-    rest args.jobs args.rules.now c.before.before.if-rules-ne0.false c.before.if-count-lt1.false c.if-count-gt252.false
+    rest args.jobs args.rules.now c.before.before.if-rules-ne0.false c.before.if-count-lt1.false c.if-count-gt-RULES.false
 
 pub list_refusal_spec : {M : Type 1} → statement M
 list_refusal_spec =
@@ -49,7 +49,7 @@ list_refusal_spec =
     (λ c. let args = c.before.before.before.args in
     no_rules args.jobs args.rules.now c.before.if-rules-ne0.false c.if-count-lt1.true)
     (λ c. let args = c.before.before.before.before.args in
-    many_rules args.jobs args.rules.now c.before.before.if-rules-ne0.false c.before.if-count-lt1.false c.if-count-gt252.true)
+    many_rules args.jobs args.rules.now c.before.before.if-rules-ne0.false c.before.if-count-lt1.false c.if-count-gt-RULES.true)
     (λ c. let n = c.before.before.before.before.before.args.jobs in
     sym (behind c.before ∙ rw (lt-leb 1 n c.if-jobs-lt1.true)))
     (λ c. let n = c.before.before.before.before.before.before.args.jobs in

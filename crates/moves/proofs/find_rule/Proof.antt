@@ -20,25 +20,6 @@ invariant_loop jobs rules job index total left₀ links₀ last₀ rest₀ left 
 abbrev decreases_loop : tie.decreases-loop-rest
 decreases_loop jobs rules job index total left₀ links₀ last₀ rest₀ left links last rest = rest
 
-rule_total_requires : tie.Need-rule_total-total-requires invariant_loop decreases_loop
-rule_total_requires c κs = search rules
-
-loop_holds : tie.Need-loop-rest-init invariant_loop decreases_loop
-loop_holds c =
-    let s = c.before.before in
-    let e : 0 ≡ c.rule_total-total.result - c.rule_total-total.result = omega arith in (
-      omega arith,
-      c.rule_total-total.ensures,
-      subst (Passing s.args.rules.now s.args.job s.args.index s.args.index _ _) e
-          (passing_start s.args.rules.now s.args.job s.args.index),
-    )
-
-sub_at : tie.Need-overflow_sub-at invariant_loop decreases_loop
-sub_at c = omega arith
-
-sub_rest : tie.Need-overflow_sub-rest invariant_loop decreases_loop
-sub_rest c = omega arith
-
 -- the rule that a turn looks at
 module _ (c : tie.In-loop-rest invariant_loop decreases_loop) where
   abbrev at_loop : tie.At-loop-rest invariant_loop decreases_loop
@@ -63,43 +44,6 @@ module _ (c : tie.In-loop-rest invariant_loop decreases_loop) where
   bytes : (k : ℕ) → get_or start.args.rules.now k 0 < 256
   bytes k = omega (arith, at_loop.before.before.shared_slice_known-1.given k)
 
-rule_job_requires : tie.Need-rule_job-requires invariant_loop decreases_loop
-rule_job_requires c κs = there c
-
-loop_less : tie.Need-loop-rest-smaller-then-rule_job-job invariant_loop decreases_loop
-loop_less c = omega arith
-
-loop_again : tie.Need-loop-rest-preserved-then-rule_job-job invariant_loop decreases_loop
-loop_again c =
-    let turn = c.before.before in
-    let s = start turn in
-    let l = (at_loop turn).loop-rest in (
-      omega (arith, l.invariant.0),
-      l.invariant.1,
-      subst (Passing s.args.rules.now s.args.job s.args.index l.left l.links l.last) (next turn)
-          (passing_other s.args.jobs s.args.rules.now s.requires (bytes turn) s.args.job s.args.index l.left l.links l.last
-          (at turn) (there turn) l.invariant.2 (λ e. c.if-rule_job-job.true (c.before.rule_job.ensures.is ∙ e))),
-    )
-
-place_requires : tie.Need-place-requires invariant_loop decreases_loop
-place_requires c κs = there c.before.before
-
-bucket_requires : tie.Need-bucket-b-requires invariant_loop decreases_loop
-bucket_requires c κs =
-    let turn = c.before.before.before in
-    ap length c.place.ensures ∙ place_length (start turn).args.rules.now (at turn) (there turn)
-
-array_read_wide : tie.Need-bounds-last-b invariant_loop decreases_loop
-array_read_wide c = c.before.bucket-b.ensures.small
-
-wide_requires : tie.Need-wide-requires invariant_loop decreases_loop
-wide_requires c κs = search rules
-
-stands_requires : tie.Need-stands-requires invariant_loop decreases_loop
-stands_requires c κs =
-    let turn = c.before.before.before.before.before.before in
-    (there turn, (start turn).requires.few)
-
 -- the answer of the buckets
 module _ (c : tie.After-stands invariant_loop decreases_loop) where
   abbrev turn : tie.In-loop-rest invariant_loop decreases_loop
@@ -119,74 +63,14 @@ module _ (c : tie.After-stands invariant_loop decreases_loop) where
       subst (λ (x : ℕ). Stands (start turn).args.rules.now (at_loop turn).loop-rest.links x (at turn) c.stands.result)
       c.before.wide.ensures.is c.stands.ensures
 
-loop_less_2 : tie.Need-loop-rest-smaller-then-stands invariant_loop decreases_loop
-loop_less_2 c = omega arith
-
-loop_again_2 : tie.Need-loop-rest-preserved-then-stands invariant_loop decreases_loop
-loop_again_2 c =
-    let s = start (turn c.before) in
-    let l = (at_loop (turn c.before)).loop-rest in (
-      omega (arith, l.invariant.0),
-      l.invariant.1,
-      subst (Passing s.args.rules.now s.args.job s.args.index l.left l.links l.last) (next (turn c.before))
-          (passing_again s.args.jobs s.args.rules.now s.requires (bytes (turn c.before)) s.args.job s.args.index l.left l.links l.last
-          (at (turn c.before)) (there (turn c.before)) l.invariant.2 (own c.before) ((answer c.before).yes c.if-stands.true)),
-    )
-
 -- past the second test the rule is a new one
-denied : (c : tie.Else-stands invariant_loop decreases_loop) →
-    let l = (at_loop (turn c.before)).loop-rest in
-    Stands (start (turn c.before)).args.rules.now l.links (get_or l.last (b c.before) 0) (at (turn c.before)) false
-denied c =
-    let l = (at_loop (turn c.before)).loop-rest in
-    subst (Stands (start (turn c.before)).args.rules.now l.links (get_or l.last (b c.before) 0) (at (turn c.before)))
-    c.if-stands.false (answer c.before)
-
-returns : tie.Need-returns-then-left-eq0 invariant_loop decreases_loop
-returns c =
-    let said = c.before.before in
-    let s = start (turn said) in
-    let l = (at_loop (turn said)).loop-rest in
-    passing_ends s.args.jobs s.args.rules.now s.requires (bytes (turn said)) s.args.job s.args.index l.left l.links l.last
-    (at (turn said)) (there (turn said)) l.invariant.2 (own said) (b said) (is said) (denied c.before) c.if-left-eq0.true
-
-sub_left : tie.Need-overflow_sub-left invariant_loop decreases_loop
-sub_left c = omega arith
-
-array_read_links : tie.Need-bounds-last-b-in-loop-rest invariant_loop decreases_loop
-array_read_links c = c.before.before.before.before.before.bucket-b.ensures.small
-
-array_write_links : tie.Need-bounds-links-at invariant_loop decreases_loop
-array_write_links c = small (turn c.before.before)
-
-cast_last : tie.Need-overflow_cast-last invariant_loop decreases_loop
-cast_last c = omega (arith, small (turn c.before.before))
-
-array_write_last : tie.Need-bounds-last-b-in-loop-rest-2 invariant_loop decreases_loop
-array_write_last c = c.before.before.before.before.before.bucket-b.ensures.small
-
-loop_less_3 : tie.Need-loop-rest-smaller invariant_loop decreases_loop
-loop_less_3 c = omega arith
-
-loop_again_3 : tie.Need-loop-rest-preserved invariant_loop decreases_loop
-loop_again_3 c =
-    let said = c.before.before in
-    let s = start (turn said) in
-    let l = (at_loop (turn said)).loop-rest in (
-      omega (arith, l.invariant.0),
-      l.invariant.1,
-      subst (Passing s.args.rules.now s.args.job s.args.index (l.left - 1) _ _) (next (turn said))
-          (passing_new s.args.jobs s.args.rules.now s.requires (bytes (turn said)) s.args.job s.args.index l.left l.links l.last
-          (at (turn said)) (there (turn said)) l.invariant.2 (own said) (b said) (is said) (denied c.before)
-          said.before.before.before.bucket-b.ensures.small (omega arith)),
-    )
-
-returns_2 : tie.Need-returns invariant_loop decreases_loop
-returns_2 c =
-    let l = c.before.loop-rest in
-    let total = c.before.before.rule_total-total.result in
-    let s = c.before.before.before.before in
-    found_none s.args.rules.now s.args.job s.args.index l.left (total - l.rest) total l.invariant.1 (omega (arith, l.invariant.1)) l.invariant.2.ahead
+denied : (c : tie.After-stands invariant_loop decreases_loop) → c.stands.result ≡ false →
+    let l = (at_loop (turn c)).loop-rest in
+    Stands (start (turn c)).args.rules.now l.links (get_or l.last (b c) 0) (at (turn c)) false
+denied c new =
+    let l = (at_loop (turn c)).loop-rest in
+    subst (Stands (start (turn c)).args.rules.now l.links (get_or l.last (b c) 0) (at (turn c)))
+    new (answer c)
 
 pub find_rule_spec : {M : Type 1} → statement M
 find_rule_spec =
@@ -194,26 +78,65 @@ find_rule_spec =
     (tie.spec
     invariant_loop
     decreases_loop
-    rule_total_requires
-    loop_holds
-    sub_at
-    sub_rest
-    rule_job_requires
-    loop_less
-    loop_again
-    place_requires
-    bucket_requires
-    array_read_wide
-    wide_requires
-    stands_requires
-    loop_less_2
-    loop_again_2
-    returns
-    sub_left
-    array_read_links
-    array_write_links
-    cast_last
-    array_write_last
-    loop_less_3
-    loop_again_3
-    returns_2)
+    (λ c κs. search rules)
+    (λ c. let s = c.before.before in
+    let e : 0 ≡ c.rule_total-total.result - c.rule_total-total.result = omega arith in (
+      omega arith,
+      c.rule_total-total.ensures,
+      subst (Passing s.args.rules.now s.args.job s.args.index s.args.index _ _) e
+          (passing_start s.args.rules.now s.args.job s.args.index),
+    ))
+    (λ c. omega arith)
+    (λ c. omega arith)
+    (λ c κs. there c)
+    (λ c. omega arith)
+    (λ c. let turn = c.before.before in
+    let s = start turn in
+    let l = (at_loop turn).loop-rest in (
+      omega (arith, l.invariant.0),
+      l.invariant.1,
+      subst (Passing s.args.rules.now s.args.job s.args.index l.left l.links l.last) (next turn)
+          (passing_other s.args.jobs s.args.rules.now s.requires (bytes turn) s.args.job s.args.index l.left l.links l.last
+          (at turn) (there turn) l.invariant.2 (λ e. c.if-rule_job-job.true (c.before.rule_job.ensures.is ∙ e))),
+    ))
+    (λ c κs. there c.before.before)
+    (λ c κs. let turn = c.before.before.before in
+    ap length c.place.ensures ∙ place_length (start turn).args.rules.now (at turn) (there turn))
+    (λ c. c.before.bucket-b.ensures.small)
+    (λ c κs. search rules)
+    (λ c κs. let turn = c.before.before.before.before.before.before in
+    (there turn, (start turn).requires.few))
+    (λ c. omega arith)
+    (λ c. let s = start (turn c.before) in
+    let l = (at_loop (turn c.before)).loop-rest in (
+      omega (arith, l.invariant.0),
+      l.invariant.1,
+      subst (Passing s.args.rules.now s.args.job s.args.index l.left l.links l.last) (next (turn c.before))
+          (passing_again s.args.jobs s.args.rules.now s.requires (bytes (turn c.before)) s.args.job s.args.index l.left l.links l.last
+          (at (turn c.before)) (there (turn c.before)) l.invariant.2 (own c.before) ((answer c.before).yes (assumption))),
+    ))
+    (λ c. let said = c.before.before in
+    let s = start (turn said) in
+    let l = (at_loop (turn said)).loop-rest in
+    passing_ends s.args.jobs s.args.rules.now s.requires (bytes (turn said)) s.args.job s.args.index l.left l.links l.last
+    (at (turn said)) (there (turn said)) l.invariant.2 (own said) (b said) (is said) (denied said (assumption)) c.if-left-eq0.true)
+    (λ c. omega arith)
+    (λ c. c.before.before.before.before.before.bucket-b.ensures.small)
+    (λ c. small (turn c.before.before))
+    (λ c. omega (arith, small (turn c.before.before)))
+    (λ c. c.before.before.before.before.before.bucket-b.ensures.small)
+    (λ c. omega arith)
+    (λ c. let said = c.before.before in
+    let s = start (turn said) in
+    let l = (at_loop (turn said)).loop-rest in (
+      omega (arith, l.invariant.0),
+      l.invariant.1,
+      subst (Passing s.args.rules.now s.args.job s.args.index (l.left - 1) _ _) (next (turn said))
+          (passing_new s.args.jobs s.args.rules.now s.requires (bytes (turn said)) s.args.job s.args.index l.left l.links l.last
+          (at (turn said)) (there (turn said)) l.invariant.2 (own said) (b said) (is said) (denied said (assumption))
+          said.before.before.before.bucket-b.ensures.small (omega arith)),
+    ))
+    (λ c. let l = c.before.loop-rest in
+    let total = c.before.before.rule_total-total.result in
+    let s = c.before.before.before.before in
+    found_none s.args.rules.now s.args.job s.args.index l.left (total - l.rest) total l.invariant.1 (omega (arith, l.invariant.1)) l.invariant.2.ahead))
