@@ -1,5 +1,5 @@
 #!/bin/sh
-# proofs.sh: Rattle's gate over every crate, from nothing: proofs, edits that must be refused, and the program's run. It fails where the
+# proofs.sh: Rattle's gate over every crate: proofs, edits that must be refused, and the program's run. It fails where the
 # gate does, and where an edit was not refused for what it says: one that cannot be applied (BAD), fewer refused than there are, or one that
 # was refused only because a proof names what the edit took away.
 set -u

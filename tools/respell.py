@@ -32,7 +32,7 @@ def files(top, crate):
 
 
 def library_names(top, own):
-    """Names with a dash that some file imports from a library, and those that the library spells itself."""
+    """Names with a dash that some file imports from a library."""
     found = set()
     for crate in own:
         for path in files(top, crate):
@@ -117,7 +117,7 @@ def main(argv):
         for crate, names in listed.items():
             print(f"{crate}: {', '.join(names) or 'none'}")
         return 0
-    if clash and "--anyway" not in argv:
+    if clash:
         print("\n".join(clash), file=sys.stderr)
         print(f"respell: {len(clash)} names would fall together; nothing was written", file=sys.stderr)
         return 1
