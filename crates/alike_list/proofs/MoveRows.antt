@@ -2,13 +2,15 @@
 use mathlib.Core.Path.{◌≡◌, sym, ap, ◌∙◌}
 use mathlib.Core.Bool.{Bool, true, false, ◌||◌, cond, or-true, or-false, or_assoc}
 use mathlib.Core.List.{List}
-use Prim.Native.Nat.{ℕ, ◌+◌, ◌≤◌, ◌<◌}
+use Prim.Native.Nat.{ℕ, ◌+◌, ◌*◌, ◌≤◌, ◌<◌}
 use native.Mathlib.Numerals.{add-one}
+use native.Mathlib.Omega.{arith}
 use lib.Dec.{eqb}
-use lib.ListN.{length, get_or, drop, drop_of_length-le}
-use lib.Seq.{drop-cons}
+use lib.ListN.{length, get_or, take, drop, length-take, drop_of_length-le}
+use lib.Seq.{drop-cons, get_or-take}
+use mir.Val.{bool_byte}
 use Rattle.alike.specs.Alike.{stands_in}
-use Rattle.alike_list.specs.PairArrays.{sum_at}
+use Rattle.alike_list.specs.PairArrays.{sum_at, MoveArrays}
 
 -- what was found so far, after one more test, and with what is then left
 module _ (found b : Bool) {found' : Bool} where
@@ -40,6 +42,21 @@ module _ (fs ts : List ℕ) (k a : ℕ) (h : k < length fs) (l : k < length ts) 
   pub part_next : (b : Bool) → b ≡ eqb (get_or fs k 0) a → part ≡ cond b (get_or ts k 0) 0 →
       sum_at (drop k fs) (drop k ts) a ≡ part + sum_at (drop (k + 1) fs) (drop (k + 1) ts) a
   part_next b e d = sum_next (d ∙ ap (λ (x : Bool). cond x (get_or ts k 0) 0) e)
+
+-- a test as a number, times another
+times_test : (b : Bool) (t : ℕ) → bool_byte b * t ≡ cond b t 0
+times_test true t = omega arith
+times_test false t = omega arith
+
+-- so many places of two arrays
+module _ {froms tos : List ℕ} {n : ℕ} (m : MoveArrays froms tos n) (k a bit : ℕ) (h : k < n) (is : bit ≡ bool_byte (eqb (get_or froms k 0) a)) where
+  pub place_next : sum_at (drop k (take n froms)) (drop k (take n tos)) a
+      ≡ bit * get_or tos k 0 + sum_at (drop (k + 1) (take n froms)) (drop (k + 1) (take n tos)) a
+  place_next =
+      let b = eqb (get_or froms k 0) a in
+      part_next (take n froms) (take n tos) k a (simp length-take (omega (arith, m.size.0, m.inside))) (simp length-take (omega (arith, m.size.1, m.inside)))
+      (bit * get_or tos k 0) b (ap (λ (x : ℕ). eqb x a) (sym (get_or-take n froms k 0 h)))
+      (ap (λ (x : ℕ). x * get_or tos k 0) is ∙ times_test b (get_or tos k 0) ∙ ap (λ (x : ℕ). cond b x 0) (sym (get_or-take n tos k 0 h)))
 
 pub sum_end : (fs ts : List ℕ) (k a : ℕ) → length fs ≤ k → sum_at (drop k fs) (drop k ts) a ≡ 0
 unfolding sum_at

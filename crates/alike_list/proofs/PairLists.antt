@@ -50,6 +50,10 @@ module _ {ls : List ℕ} {count : ℕ} (w : WholePairs ls count) where
   unfolding alike_pairs
   whole_length = length_pairs (pair_count ls) ls ∙ count_is
 
+  pub pair_there : (k : ℕ) → k < count → (d : Pair) → get_or (alike_pairs ls) k d ≡ pair_at ls k
+  unfolding alike_pairs
+  pair_there k h d = there (pair_count ls) ls k d (omega (arith, count_is))
+
   pub pair_next : (k : ℕ) → k < count → drop k (alike_pairs ls) ≡ pair_at ls k ∷ drop (k + 1) (alike_pairs ls)
   unfolding alike_pairs
   pair_next k h =

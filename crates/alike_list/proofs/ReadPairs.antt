@@ -1,23 +1,24 @@
--- The from-moves and the to-moves of a list as they are read, pair by pair: the row that is filled, and what was found to clash. Assumes nothing.
+-- The pairs of a list as they are read, one by one: the two rows that are filled, and what is known not to clash. Assumes nothing.
 use mathlib.Core.Path.{◌≡◌, refl, sym, ap, ap₂, ◌∙◌}
 use mathlib.Core.Bool.{Bool, true, false, ◌||◌, or-false}
 use mathlib.Core.List.{List, [], ◌∷◌, ◌++◌, map}
 use Prim.Native.Nat.{ℕ, zero, suc, ◌+◌, ◌*◌, ◌-◌, ◌≤◌, ◌<◌}
+use native.Mathlib.Decide.{dec_lt}
 use native.Mathlib.Omega.{arith}
 use lib.Dec.{eqb}
-use lib.ListN.{length, get_or, take, drop, set, replicate, drop_of_length-le}
-use lib.Seq.{take_all, get_or-set_same, get_or-set_other}
+use lib.ListN.{length, get_or, take, drop, set, replicate, length-map, length-take, get_or-append, drop_of_length-le}
+use lib.Seq.{take_all, get_or-take, get_or-set_same, get_or-set_other}
+use Rattle.std.proofs.lemmas.List.{get_or-map as list_map}
 use borrow.Author.Tests.{eqb-true, eqb-false, eq-eqb}
 use Rattle.bpa.proofs.Basics.Cases.{by_test, or_left}
 use Rattle.bpa.proofs.Basics.Zeros.{zeros_at}
 use Rattle.area.specs.Numbers.{number_at}
-use Rattle.alike.specs.Alike.{Pair, froms, tos, stands_in, is_from, from_twice, from_as_to}
+use Rattle.alike.specs.Alike.{Pair, froms, tos, stands_in, is_from, from_twice, from_as_to, clashes}
 use Rattle.alike_list.specs.AlikeLists.{alike_pairs}
-use Rattle.alike_list.specs.PairArrays.{WholePairs, filled_froms, filled_tos, ReadsFroms, ReadsTos}
-use Rattle.alike_list.proofs.MoveRows.{found_next}
-use Rattle.alike_list.proofs.PairLists.{pair_at, whole_length, pair_next, pair_more}
+use Rattle.alike_list.specs.PairArrays.{WholePairs, filled_froms, filled_tos, HoldsPairs}
+use Rattle.alike_list.proofs.PairLists.{pair_at, whole_length, pair_there, pair_next, pair_more}
 use Rattle.alike_list.proofs.FilledRows.{filled_up, filled_length, filled_more, stands_filled}
-use Rattle.alike_list.proofs.CountedMoves.{stands_whole}
+use Rattle.alike_list.proofs.CountedMoves.{stands_whole, rows_hold}
 
 abbrev from_part : Pair → ℕ
 from_part p = p.from
@@ -51,119 +52,118 @@ module _ {ls : List ℕ} {count : ℕ} (w : WholePairs ls count) where
   first_known (suc k) h =
       ap (λ (l : List Pair). is_from (take (suc k) l) first) begins ∙ or_left (eqb first first) (is_from (take k (drop 1 ps)) first) (eq-eqb first first refl)
 
-  -- THE FROM-MOVES: k are read
-  pub record FromsRead (k : ℕ) (clash : Bool) (row : List ℕ) : Type 0 where
-    pub some : 1 ≤ k
+  -- THE PAIRS: k are read, and no from-move stood twice
+  pub record Read (k : ℕ) (row others : List ℕ) : Type 0 where
     pub within : k ≤ count
-    pub filled : row ≡ filled_up from_part first k ps
-    pub twice : (clash || from_twice (take k ps) (drop k ps)) ≡ from_twice [] ps
+    pub froms : row ≡ filled_up from_part first k ps
+    pub tos : others ≡ filled_up to_part 0 k ps
+    pub twice : from_twice (take k ps) (drop k ps) ≡ from_twice [] ps
+    pub small : (i : ℕ) → get_or others i 0 < 65536
 
-  pub froms_begin : FromsRead 1 false (replicate 32 first)
-  unfolding filled_up from_twice stands_in
-  froms_begin = record {
-    some = omega arith;
-    within = w.some;
-    filled = ap (λ (l : List Pair). map from_part l ++ replicate 31 first) (sym (pair_more w 0 w.some));
-    twice = ap (λ (l : List Pair). from_twice l (drop 1 ps)) (pair_more w 0 w.some) ∙ ap (from_twice []) (sym begins);
-  }
+  pub read_begin : Read 0 (replicate 32 first) (replicate 32 0)
+  unfolding filled_up
+  read_begin = record { within = omega arith; froms = refl; tos = refl; twice = refl; small = λ i. omega (arith, zeros_at 32 i) }
 
-  module _ {k : ℕ} {clash : Bool} {row : List ℕ} (s : FromsRead k clash row) where
+  module _ {k : ℕ} {row others : List ℕ} (s : Read k row others) where
     pub froms_size : length row ≡ 32
-    froms_size = ap length s.filled ∙ filled_length from_part first k ps (omega (arith, whole_length w, s.within)) (omega (arith, w.few, s.within))
+    froms_size = ap length s.froms ∙ filled_length from_part first k ps (omega (arith, whole_length w, s.within)) (omega (arith, w.few, s.within))
 
-    pub froms_end : count ≤ k → ReadsFroms ps clash row
-    unfolding filled_up filled_froms from_twice
-    froms_end h =
-        let e : k ≡ count = omega (arith, s.within) in
-        record {
-          twice =
-              sym (or-false clash) ∙ ap (λ (l : List Pair). clash || from_twice (take count ps) l) (sym none_left)
-              ∙ ap (λ (n : ℕ). clash || from_twice (take n ps) (drop n ps)) (sym e) ∙ s.twice;
-          filled =
-              s.filled ∙ ap (λ (n : ℕ). filled_up from_part first n ps) e
-              ∙ (λ i. froms (whole i) ++ replicate (32 - (sym (whole_length w)) i) (first_is i));
-        }
+    pub tos_size : length others ≡ 32
+    tos_size = ap length s.tos ∙ filled_length to_part 0 k ps (omega (arith, whole_length w, s.within)) (omega (arith, w.few, s.within))
 
     module _ (h : k < count) (a : ℕ) (is : a ≡ number_at (4 * k) ls) where
-      from_is : stands_in row a ≡ is_from (take k ps) (pair_at ls k).from
-      from_is = ap (λ (l : List ℕ). stands_in l a) s.filled ∙ stands_filled k ps first a known ∙ ap (is_from (take k ps)) is
-        where
-          known : is_from (take k ps) first ≡ true
-          known = first_known k s.some
-
-      from_turn : from_twice (take k ps) (drop k ps) ≡ (is_from (take k ps) (pair_at ls k).from || from_twice (take (k + 1) ps) (drop (k + 1) ps))
+      turn : from_twice [] ps ≡ (is_from (take k ps) (pair_at ls k).from || from_twice (take (k + 1) ps) (drop (k + 1) ps))
       unfolding from_twice
-      from_turn =
-          ap (from_twice (take k ps)) (pair_next w k h)
+      turn =
+          sym s.twice ∙ ap (from_twice (take k ps)) (pair_next w k h)
           ∙ ap (λ (l : List Pair). is_from (take k ps) (pair_at ls k).from || from_twice l (drop (k + 1) ps)) (sym (pair_more w k h))
 
-      from_more : set row k a ≡ filled_up from_part first (k + 1) ps
-      from_more =
-          ap₂ (λ (l : List ℕ) (v : ℕ). set l k v) s.filled is
-          ∙ filled_more from_part first k ps (omega (arith, whole_length w)) (omega (arith, w.few)) (pair_at ls k) (pair_more w k h)
+      -- whether the next from-move is an earlier one
+      pub found_is : 1 ≤ k → stands_in row a ≡ is_from (take k ps) (pair_at ls k).from
+      found_is some = ap (λ (l : List ℕ). stands_in l a) s.froms ∙ stands_filled k ps first a (first_known k some) ∙ ap (is_from (take k ps)) is
 
-      pub froms_next : {clash' : Bool} → clash' ≡ (clash || stands_in row a) → FromsRead (k + 1) clash' (set row k a)
-      froms_next e = record {
-        some = omega arith;
+      pub stands_twice : 1 ≤ k → stands_in row a ≡ true → from_twice [] ps ≡ true
+      stands_twice some e = turn ∙ or_left (is_from (take k ps) (pair_at ls k).from) (from_twice (take (k + 1) ps) (drop (k + 1) ps)) (sym (found_is some) ∙ e)
+
+      none_earlier : k ≡ 0 → is_from (take k ps) (pair_at ls k).from ≡ false
+      unfolding stands_in
+      none_earlier e = ap (λ (n : ℕ). is_from (take n ps) (pair_at ls k).from) e
+
+      pub is_new : (1 ≤ k → stands_in row a ≡ false) → is_from (take k ps) (pair_at ls k).from ≡ false
+      is_new other = by_side (dec_lt 0 k)
+        where
+          by_side : Dec (0 < k) → is_from (take k ps) (pair_at ls k).from ≡ false
+          by_side (yes l) = sym (found_is (omega arith)) ∙ other (omega arith)
+          by_side (no l) = none_earlier (omega arith)
+
+      pub read_next : is_from (take k ps) (pair_at ls k).from ≡ false → (b : ℕ) → b ≡ number_at (4 * k + 2) ls → b < 65536 → Read (k + 1) (set row k a) (set others k b)
+      read_next new b to few = record {
         within = omega arith;
-        filled = from_more;
-        twice =
-            found_next clash _ (from_twice (take (k + 1) ps) (drop (k + 1) ps)) (e ∙ ap (λ (b : Bool). clash || b) from_is)
-            ∙ ap (λ (b : Bool). clash || b) (sym from_turn) ∙ s.twice;
+        froms =
+            ap₂ (λ (l : List ℕ) (v : ℕ). set l k v) s.froms is
+            ∙ filled_more from_part first k ps (omega (arith, whole_length w)) (omega (arith, w.few)) (pair_at ls k) (pair_more w k h);
+        tos =
+            ap₂ (λ (l : List ℕ) (v : ℕ). set l k v) s.tos to
+            ∙ filled_more to_part 0 k ps (omega (arith, whole_length w)) (omega (arith, w.few)) (pair_at ls k) (pair_more w k h);
+        twice = sym (turn ∙ ap (λ (x : Bool). x || from_twice (take (k + 1) ps) (drop (k + 1) ps)) new);
+        small = λ i.
+            by_test (eqb i k)
+            (λ e. let d = eqb-true i k e in omega (arith, ap (λ (j : ℕ). get_or (set others k b) j 0) d, get_or-set_same others k b 0 (omega (arith, tos_size, w.few)), few))
+            (λ e. omega (arith, get_or-set_other others k i b 0 (eqb-false i k e), s.small i));
       }
 
-  -- THE TO-MOVES: k are read
-  pub record TosRead (k : ℕ) (clash : Bool) (row : List ℕ) : Type 0 where
-    pub within : k ≤ count
-    pub filled : row ≡ filled_up to_part 0 k ps
-    pub as_from : (clash || from_as_to ps (drop k ps)) ≡ from_as_to ps ps
-    pub small : (i : ℕ) → get_or row i 0 < 65536
+    -- ALL OF THEM
+    module _ (h : count ≤ k) where
+      all_read : k ≡ count
+      all_read = omega (arith, s.within)
 
-  pub tos_begin : TosRead 0 false (replicate 32 0)
-  unfolding filled_up
-  tos_begin = record { within = omega arith; filled = refl; as_from = refl; small = λ i. omega (arith, zeros_at 32 i) }
+      pub froms_filled : row ≡ filled_froms ps
+      unfolding filled_up filled_froms
+      froms_filled =
+          s.froms ∙ ap (λ (n : ℕ). filled_up from_part first n ps) all_read
+          ∙ (λ i. froms (whole i) ++ replicate (32 - (sym (whole_length w)) i) (first_is i))
 
-  module _ {k : ℕ} {clash : Bool} {row : List ℕ} (s : TosRead k clash row) where
-    tos_size : length row ≡ 32
-    tos_size = ap length s.filled ∙ filled_length to_part 0 k ps (omega (arith, whole_length w, s.within)) (omega (arith, w.few, s.within))
+      pub tos_filled : others ≡ filled_tos ps
+      unfolding filled_up filled_tos
+      tos_filled =
+          s.tos ∙ ap (λ (n : ℕ). filled_up to_part 0 n ps) all_read ∙ (λ i. tos (whole i) ++ replicate (32 - (sym (whole_length w)) i) 0)
 
-    pub tos_end : count ≤ k → ReadsTos ps clash row
-    unfolding filled_up filled_tos from_as_to
-    tos_end h =
-        let e : k ≡ count = omega (arith, s.within) in
-        record {
-          as_from =
-              sym (or-false clash) ∙ ap (λ (l : List Pair). clash || from_as_to ps l) (sym none_left)
-              ∙ ap (λ (n : ℕ). clash || from_as_to ps (drop n ps)) (sym e) ∙ s.as_from;
-          filled = s.filled ∙ ap (λ (n : ℕ). filled_up to_part 0 n ps) e ∙ (λ i. tos (whole i) ++ replicate (32 - (sym (whole_length w)) i) 0);
-          small = s.small;
-        }
+      never_twice : from_twice [] ps ≡ false
+      unfolding from_twice
+      never_twice = sym s.twice ∙ ap (λ (n : ℕ). from_twice (take n ps) (drop n ps)) all_read ∙ ap (from_twice (take count ps)) none_left
 
-    module _ (h : k < count) (a : ℕ) (is : a ≡ number_at (4 * k + 2) ls) (few : a < 65536) {b : Bool} (test : b ≡ stands_in (filled_froms ps) a) where
-      to_is : b ≡ is_from ps (pair_at ls k).to
-      to_is = test ∙ stands_whole ps (omega (arith, whole_length w, w.some)) a ∙ ap (is_from ps) is
+      -- A FROM-MOVE AS A TO-MOVE: k pairs are looked at
+      module _ (i : ℕ) (l : i < length (take count others)) {b : Bool} (test : b ≡ stands_in row (get_or (take count others) i 0)) where
+        inside : i < count
+        inside = omega (arith, simp length-take at l)
 
-      to_turn : from_as_to ps (drop k ps) ≡ (is_from ps (pair_at ls k).to || from_as_to ps (drop (k + 1) ps))
+        to_is : get_or (take count others) i 0 ≡ (pair_at ls i).to
+        unfolding filled_tos
+        to_is =
+            let p = pair_at ls i in
+            get_or-take count others i 0 inside ∙ ap (λ (x : List ℕ). get_or x i 0) tos_filled
+            ∙ get_or-append (tos ps) (replicate (32 - length ps) 0) 0 i (omega (arith, length-map ps to_part, whole_length w, inside))
+            ∙ list_map to_part ps i p 0 (omega (arith, whole_length w, inside)) ∙ ap to_part (pair_there w i inside p)
+
+        as_to : b ≡ is_from ps (pair_at ls i).to
+        as_to =
+            test ∙ ap (λ (x : List ℕ). stands_in x (get_or (take count others) i 0)) froms_filled
+            ∙ stands_whole ps (omega (arith, whole_length w, w.some)) (get_or (take count others) i 0) ∙ ap (is_from ps) to_is
+
+        pub to_turn : from_as_to ps (drop i ps) ≡ (b || from_as_to ps (drop (i + 1) ps))
+        unfolding from_as_to
+        to_turn = ap (from_as_to ps) (pair_next w i inside) ∙ ap (λ (x : Bool). x || from_as_to ps (drop (i + 1) ps)) (sym as_to)
+
+      to_end : (i : ℕ) → length (take count others) ≤ i → from_as_to ps (drop i ps) ≡ false
       unfolding from_as_to
-      to_turn = ap (from_as_to ps) (pair_next w k h)
+      to_end i l = ap (from_as_to ps) (drop_of_length-le ps {i = i} (omega (arith, whole_length w, simp length-take at l, tos_size, w.few)))
 
-      to_more : set row k a ≡ filled_up to_part 0 (k + 1) ps
-      to_more =
-          ap₂ (λ (l : List ℕ) (v : ℕ). set l k v) s.filled is
-          ∙ filled_more to_part 0 k ps (omega (arith, whole_length w)) (omega (arith, w.few)) (pair_at ls k) (pair_more w k h)
+      pub clean : (i : ℕ) → length (take count others) ≤ i → from_as_to ps (drop i ps) ≡ from_as_to ps ps → clashes ps ≡ false
+      unfolding clashes
+      clean i l e = ap₂ ◌||◌ never_twice (sym e ∙ to_end i l)
 
-      still_small : (i : ℕ) → get_or (set row k a) i 0 < 65536
-      still_small i =
-          by_test (eqb i k)
-          (λ e. let d = eqb-true i k e in omega (arith, ap (λ (j : ℕ). get_or (set row k a) j 0) d, get_or-set_same row k a 0 (omega (arith, tos_size, w.few))))
-          (λ e. omega (arith, get_or-set_other row k i a 0 (eqb-false i k e), s.small i))
-
-      pub tos_next : {clash' : Bool} → clash' ≡ (clash || b) → TosRead (k + 1) clash' (set row k a)
-      tos_next e = record {
-        within = omega arith;
-        filled = to_more;
-        as_from =
-            found_next clash _ (from_as_to ps (drop (k + 1) ps)) (e ∙ ap (λ (x : Bool). clash || x) to_is)
-            ∙ ap (λ (x : Bool). clash || x) (sym to_turn) ∙ s.as_from;
-        small = still_small;
-      }
+      -- the rows hold the pairs, if none of them clash
+      pub held : clashes ps ≡ false → (n : ℕ) → count ≤ n → n ≤ 32 → HoldsPairs ps row others n
+      held clean n l f =
+          rw (froms_filled, tos_filled)
+          (rows_hold ps (omega (arith, whole_length w, w.some)) clean n (omega (arith, whole_length w)) f (rw (sym tos_filled) s.small))

@@ -1,7 +1,6 @@
 -- The pairs of a list in two arrays of 32 numbers. Assumes nothing: these are definitions.
-use Rattle.std.specs.Prelude.{◌≡◌, Bool, cond, List, [], ◌∷◌, ◌++◌, ℕ, ◌+◌, ◌*◌, ◌-◌, ◌≤◌, ◌<◌, eqb, length, get_or, take, replicate}
-use Rattle.alike.specs.Alike.{Pair, replace, froms, tos, stands_in, from_twice, from_as_to}
-use Rattle.alike_list.specs.AlikeLists.{alike_pairs, alike_refusal}
+use Rattle.std.specs.Prelude.{◌≡◌, cond, List, [], ◌∷◌, ◌++◌, ℕ, ◌+◌, ◌*◌, ◌-◌, ◌≤◌, ◌<◌, eqb, length, get_or, take, replicate}
+use Rattle.alike.specs.Alike.{Pair, replace, froms, tos, stands_in}
 
 -- 1 to 32 whole pairs
 pub record WholePairs (list : List ℕ) (count : ℕ) : Type 0 where
@@ -36,19 +35,3 @@ pub record MoveArrays (fs ts : List ℕ) (end : ℕ) : Type 0 where
 pub record HoldsPairs (ps : List Pair) (fs ts : List ℕ) (end : ℕ) : Type 0 where
   pub arrays : MoveArrays fs ts end
   pub counts : (a : ℕ) → counts_as fs ts end a ≡ replace ps a
-
--- A LIST THAT WAS READ: its refusal, and its arrays if there is none
-pub record ReadsList (list : List ℕ) (refusal : ℕ) (fs ts : List ℕ) (end : ℕ) : Type 0 where
-  pub refusal_is : refusal ≡ alike_refusal list
-  pub holds : refusal ≡ 0 → HoldsPairs (alike_pairs list) fs ts end
-
--- the from-moves of a list in a row, and whether one stands twice
-pub record ReadsFroms (ps : List Pair) (clash : Bool) (row : List ℕ) : Type 0 where
-  pub twice : clash ≡ from_twice [] ps
-  pub filled : row ≡ filled_froms ps
-
--- its to-moves in a row, numbers of two bytes, and whether one stands as a from-move
-pub record ReadsTos (ps : List Pair) (clash : Bool) (row : List ℕ) : Type 0 where
-  pub as_from : clash ≡ from_as_to ps ps
-  pub filled : row ≡ filled_tos ps
-  pub small : (k : ℕ) → get_or row k 0 < 65536

@@ -2,3 +2,5 @@
 pub mod RefusalChains
 pub mod Answers
 pub mod Results
+pub mod ResultChains
+pub mod Answered

@@ -1,13 +1,19 @@
 -- THE FOUR SHAPES of what a call gives back and leaves in the areas lent to it: a number, bytes written, and each of them with a
 -- workspace. `refusal` is what the call's own checks come to. Assumes nothing: these are definitions.
-use Rattle.std.specs.Prelude.{◌≡◌, Bool, true, false, cond, List, ◌++◌, ℕ, zero, suc, ltb, ℤ, pos, negsuc, length, drop, replicate}
+use Rattle.std.specs.Prelude.{◌≡◌, Bool, true, false, cond, List, ◌++◌, ℕ, zero, suc, ltb, ℤ, pos, negsuc, length, drop, replicate, Result, Ok, Err}
 use Rattle.area.specs.Areas.{put}
-use Rattle.answer.specs.Refusals.{or_else, space_size, space_refusal, room_refusal}
+use Rattle.answer.specs.declared.Refusal.{Refusal}
+use Rattle.answer.specs.Refusals.{or_else, space_size, space_refusal, room_refusal, number}
 
 -- a result, or a refusal's number made negative; refusal 0 is none
 unfoldable pub signed : (refusal value : ℕ) → ℤ
 signed zero v = pos v
 signed (suc n) v = negsuc n
+
+-- what a call gives back for a result, and for a refusal
+unfoldable pub answered : Result ℕ Refusal → ℤ
+answered (Ok v) = pos v
+answered (Err r) = signed (number r) 0
 
 -- an answer of yes or no as a number
 unfoldable pub one_if : Bool → ℕ

@@ -1,39 +1,33 @@
--- When two jobs are equal by the old rows: what comparisons of written plans tell. Assumes nothing.
-use mathlib.Core.Path.{◌≡◌, refl, sym, ap, ◌∙◌}
-use mathlib.Core.Bool.{Bool, true, false, true≢false}
-use mathlib.Core.List.{List, [], ◌∷◌, ◌++◌, append-nil}
-use Prim.Native.Nat.{ℕ}
+-- When two jobs are equal by the old rows: what comparisons of written plans ask and tell. Assumes nothing.
+use Rattle.std.proofs.Common.{◌≡◌, Bool, true, List, [], ◌∷◌, ◌++◌, ℕ, ◌↔◌, IsTrue, refl, sym, ◌∙◌}
+use mathlib.Core.List.{append-nil}
 use lib.Dec.{ltb}
 use borrow.Author.Tests.{lt-ltb}
 use Rattle.bpa.specs.Plans.{all_below}
-use Rattle.bpa.specs.Method.{Rows, expand}
+use Rattle.bpa.specs.Method.{expand}
 use Rattle.bpa.proofs.Basics.Cases.{and_both}
+use Rattle.rows.specs.declared.Rows.{Rows}
 use Rattle.rows.specs.Region.{Comparable}
-use Rattle.rows.specs.Answers.{Decides}
-use Rattle.form.specs.Written.{Tells}
-use Rattle.answering.specs.Agreeing.{OldPair}
-
--- what is denied is answered by no
-pub denied : (A : Type 0) → (A → ⊥) → Decides false A
-denied A n = record { yes = λ h. absurd (true≢false (sym h)); no = λ a. absurd (n a) }
+use Rattle.rows.specs.Rows.{rows_of}
+use Rattle.fingerprints.specs.declared.Prints.{Prints}
+use Rattle.rule_filter.specs.declared.Pair.{Pair}
+use Rattle.answering.specs.Agreeing.{EqualOld, OldPair}
 
 -- TWO JOBS, one as a plan of one job, the other with its tail
-pub jobs_comparable : (prints lens region parts : List ℕ) (y x value power : ℕ) → OldPair prints lens region parts y x value power →
-    Comparable lens region (y ∷ []) parts
+pub jobs_comparable : {prints : Prints} {old : Rows} {parts : List ℕ} {pair : Pair} → OldPair prints old parts pair →
+    Comparable old.lens.now old.bytes.now (pair.mine ∷ []) parts
 unfolding all_below
-jobs_comparable prints lens region parts y x value power o = record {
+jobs_comparable {pair = pair} o = record {
   jobs = o.jobs;
   within = o.within;
-  left = and_both (ltb y o.jobs) true (lt-ltb y o.jobs o.y_job) refl;
+  left = and_both (ltb pair.mine o.jobs) true (lt-ltb pair.mine o.jobs o.y_job) refl;
   right = o.parts_below;
 }
 
-alone : (d : Rows) (y : ℕ) → expand d (y ∷ []) ≡ d y
+pub jobs_tell : (old : Rows) (y : ℕ) (parts : List ℕ) (out : Bool) →
+    (IsTrue out ↔ (expand (rows_of old) (y ∷ []) ≡ expand (rows_of old) parts ++ [])) → IsTrue out ↔ EqualOld old parts y
 unfolding expand
-alone d y = append-nil (d y)
-
-pub jobs_tell : (d : Rows) (y : ℕ) (parts rest : List ℕ) (out : Bool) → rest ≡ [] → Tells out (expand d (y ∷ [])) (expand d parts ++ rest) →
-    Decides out (d y ≡ expand d parts)
-jobs_tell d y parts rest out e t =
-    let right = ap (λ (l : List ℕ). expand d parts ++ l) e ∙ append-nil (expand d parts) in
-    record { yes = λ h. sym (alone d y) ∙ t.same h ∙ right; no = λ f. t.told (alone d y ∙ f ∙ sym right) }
+jobs_tell old y parts out t =
+    let alone = append-nil (rows_of old y) in
+    let right = append-nil (expand (rows_of old) parts) in
+    (λ h. record { is = sym alone ∙ t.0 h ∙ right }, λ f. t.1 (alone ∙ f.is ∙ sym right))

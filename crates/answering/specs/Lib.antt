@@ -1,2 +1,3 @@
--- Rules of two jobs that answer each other.
+-- Rules that agree, and what is asked and told of the rules of two jobs.
 pub mod Agreeing
+pub mod Questions

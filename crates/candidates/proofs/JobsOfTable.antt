@@ -1,33 +1,29 @@
 -- The jobs of the table of which the facts speak, plans over it, and plans of earlier jobs. Assumes nothing.
-use mathlib.Core.Path.{◌≡◌}
-use mathlib.Core.Bool.{true}
-use mathlib.Core.List.{List}
-use Prim.Native.Nat.{ℕ, ◌<◌}
-use native.Mathlib.Omega.{arith}
-use lib.ListN.{get_or}
+use Rattle.std.proofs.Common.{◌≡◌, true, List, ℕ, ◌<◌, get_or, arith}
 use Rattle.bpa.specs.Plans.{Table, over, all_below}
 use Rattle.bpa.specs.Norms.{sum_of}
 use Rattle.bpa.proofs.Basics.Order.{less_precedes}
 use Rattle.bpa.proofs.Basics.EachJob.{Each, each_over, each_norm}
 use Rattle.rules.specs.Places.{table_of}
 use Rattle.decompositions.proofs.NewRows.{Earlier}
-use Rattle.facts.specs.Facts.{jobs_in, table_by}
+use Rattle.facts.specs.Columns.{jobs_in, table_by}
+use Rattle.facts.specs.declared.Facts.{Facts}
 
-module _ (facts rs : List ℕ) where
-  pub job_by : (j : ℕ) → j < jobs_in facts → j < (table_by facts rs).jobs
-  unfolding table_by table_of
+module _ (facts : Facts) where
+  pub job_by : (j : ℕ) → j < jobs_in facts → j < (table_by facts).jobs
+  unfolding table_of
   job_by j h = h
 
-  pub job_below : (j : ℕ) → j < (table_by facts rs).jobs → j < jobs_in facts
-  unfolding table_by table_of
+  pub job_below : (j : ℕ) → j < (table_by facts).jobs → j < jobs_in facts
+  unfolding table_of
   job_below j h = h
 
-  pub over_by : (p : List ℕ) → all_below (jobs_in facts) p ≡ true → over (table_by facts rs) p ≡ true
-  unfolding table_by table_of over
+  pub over_by : (p : List ℕ) → all_below (jobs_in facts) p ≡ true → over (table_by facts) p ≡ true
+  unfolding table_of over
   over_by p h = h
 
-  pub over_below : (p : List ℕ) → over (table_by facts rs) p ≡ true → all_below (jobs_in facts) p ≡ true
-  unfolding table_by table_of over
+  pub over_below : (p : List ℕ) → over (table_by facts) p ≡ true → all_below (jobs_in facts) p ≡ true
+  unfolding table_of over
   over_below p h = h
 
 -- a plan whose norm is below the norm of a job has earlier jobs only

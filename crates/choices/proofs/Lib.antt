@@ -1,2 +1,3 @@
 -- Laws of the choices.
 pub mod KnownJobs
+pub mod KeptRows

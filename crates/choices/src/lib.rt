@@ -4,74 +4,64 @@
 
 ghost use Rattle.std.specs.Prelude.{◌≡◌, suc, length, get_or};
 ghost use Rattle.rules.specs.Places.{rule_at};
-ghost use Rattle.norm.specs.NormArrays.{GoodNorms};
 ghost use Rattle.lowering.specs.Lowering.{Lowers, Chosen};
 ghost use Rattle.choices.specs.Choices.{Keeps};
 
-use area::wide;
-use norm::norm_of;
-use rule_runs::make_run;
-use rules::{rule_job, rule_move};
-
-// The most moves of a run that is kept.
-const KEPT: u32 = 85;
+use norm::Normed;
+use rule_runs::{KEPT, Kept, make_run};
 
 // The run by a rule of a short job, as its row.
-fn keep_row(
-    jobs: usize,
-    rules: &[u8],
-    norms: &[u16; 24],
-    low: &[u8; 24],
-    rule: usize,
-    rows: &mut [u8],
-)
-    requires good_norms { GoodNorms jobs rules.now norms.now }
-    requires lowers { Lowers rules.now norms.now (rule_at rules.now rule).job rule }
-    requires chosen { Chosen jobs rules.now norms.now low.now rows.old (get_or norms.now (rule_at rules.now rule).job 0) }
-    ensures { Keeps jobs rules.now norms.now (rule_at rules.now rule).job rule rows.old rows.new }
+#[tactic(auto, using(crate::proofs::KeptRows::alone_kept, crate::proofs::KeptRows::run_kept, crate::proofs::KeptRows::made_length))]
+fn keep_row(table: &Normed, low: &[u8; 24], rule: usize, rows: &mut [u8])
+    requires lowers { Lowers table.now.rules.now table.now.norms.now (rule_at table.now.rules.now rule).job rule }
+    requires chosen { Chosen table.now.jobs table.now.rules.now table.now.norms.now low.now rows.old (get_or table.now.norms.now (rule_at table.now.rules.now rule).job 0) }
+    ensures { Keeps table.now.jobs table.now.rules.now table.now.norms.now (rule_at table.now.rules.now rule).job rule rows.old rows.new }
 {
-    let job = rule_job(rules, rule);
-    let norm = norm_of(norms, job);
-    if KEPT < norm {
+    let list = table.list();
+    let job = list.job(rule);
+    let norm = table.norms[job];
+    if KEPT < usize::from(norm) {
         return;
     }
     if norm == 1 {
-        area::put_number(rule_move(rules, rule) as usize, 170 * job, rows);
+        area::put_number(usize::from(list.action(rule)), 170 * job, rows);
         return;
     }
     let mut made = [0u8; 170];
-    let n = make_run(jobs, rules, norms, low, rows, rule, &mut made, 0);
-    area::put(rows, 170 * job, &made[0..n]);
+    let kept = Kept {
+        table: *table,
+        below: u32::from(norm),
+        low,
+        rows,
+    };
+    let n = make_run(&kept, rule, &mut made, 0);
+    area::put(rows, 170 * job, &made[..n]);
 }
 
 // The choices of all jobs whose norm is at most a bound, and the rows of those that are short.
-pub fn choose(jobs: usize, rules: &[u8], norms: &[u16; 24], bound: u32, rows: &mut [u8]) -> [u8; 24]
-    requires good_norms { GoodNorms jobs rules.now norms.now }
-    requires rows_len { length rows.old ≡ 4080 }
-    ensures { Chosen jobs rules.now norms.now result rows.new (suc bound) }
+pub fn choose(table: &Normed, bound: u32, rows: &mut [u8]) -> [u8; 24]
+    requires { length rows.old ≡ 4080 }
+    ensures { Chosen table.now.jobs table.now.rules.now table.now.norms.now result rows.new (suc bound) }
 {
     let mut next = [0u8; 252];
-    let first = least_moves::least_chains(jobs, rules, norms, bound, &mut next);
-    let order = order::order(jobs, norms);
+    let first = least_moves::least_chains(table, bound, &mut next);
+    let order = order::order(table.jobs, table.norms);
     let mut low = [0u8; 24];
-    let mut k = 0;
-    while k < jobs {
-        let job = wide(order[k]);
-        if bound < norm_of(norms, job) {
-            return low;
+    for &job in &order[..table.jobs] {
+        let job = usize::from(job);
+        let norm = u32::from(table.norms[job]);
+        if bound < norm {
+            break;
         }
-        let rule = earliest_rule::first_rule(
-            jobs,
-            rules,
-            norms,
-            &next,
-            wide(first[job]),
-            &low,
+        let kept = Kept {
+            table: *table,
+            below: norm,
+            low: &low,
             rows,
-        );
-        keep_row(jobs, rules, norms, &low, rule, rows);
+        };
+        let rule = earliest_rule::first_rule(&kept, &next, usize::from(first[job]));
+        keep_row(table, &low, rule, rows);
         low[job] = rule as u8;
-        k += 1;
     }
     low
 }

@@ -7,10 +7,11 @@ use native.Mathlib.Decide.{ℕ_discrete}
 use native.Mathlib.Nat.{lt_of_le_of_lt}
 use native.Mathlib.Omega.{arith}
 use lib.Bits.{bit_or, or_lt}
+use lib.Count.{count_trailing_zeros}
 use lib.ListN.{get_or}
 use Rattle.bits.specs.Bits.{bit, JobBits}
 use Rattle.bits.proofs.PlaceBits.{bit_small, bit_clear, zero_bit, one_set, or_bit, either_set}
-use Rattle.bits.proofs.TrailingBits.{set_within}
+use Rattle.bits.proofs.TrailingBits.{set_within, set_above}
 use Rattle.bits.proofs.BitSums.{Disjoint, bit_plus, Contained, bit_minus, place_least, or_least}
 use Rattle.closure.specs.Linked.{Linked, own, next}
 
@@ -54,6 +55,10 @@ module _ (rows : List ℕ) (from : ℕ) where
 
     pub closing_ends : pending ≡ 0 → JobBits reached (Linked rows from)
     closing_ends z = record { small = c.small; holds = λ k. (c.only k, closing_has z) }
+
+    -- the lowest that is pending
+    pub lowest : 0 < pending → bit pending (count_trailing_zeros 32 pending) ≡ 1
+    lowest some = let small = lt_of_le_of_lt c.least c.small in set_above 32 pending some (omega (arith, small))
 
     -- one pending job is taken
     module _ (job : ℕ) (here : bit pending job ≡ 1) where

@@ -5,7 +5,8 @@ ghost use Rattle.std.specs.Prelude.{◌<◌};
 ghost use Rattle.bits.specs.Bits.{JobBits};
 ghost use Rattle.closure.specs.Linked.{Linked, SmallRows};
 
-// Of the jobs that are pending the lowest goes next: the jobs in its rows are reached, and those of them that were not yet are pending.
+// Of the jobs that are pending the lowest goes next: the jobs in its rows are reached, and those of them that were not yet are pending. The loop
+// walks bits.
 pub fn closure(rows: &[u32; 24], from: u32) -> u32
     requires small_rows { SmallRows rows.now }
     requires from_bound { from < 16777216 }
@@ -14,9 +15,9 @@ pub fn closure(rows: &[u32; 24], from: u32) -> u32
     let mut reached = from;
     let mut pending = from;
     while 0 < pending {
-        let job = u32::trailing_zeros(pending);
+        let job = pending.trailing_zeros();
         let all = reached | rows[job as usize];
-        pending = (pending - (1u32 << job)) + (all - reached);
+        pending = (pending - (1 << job)) + (all - reached);
         reached = all;
     }
     reached

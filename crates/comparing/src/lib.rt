@@ -1,182 +1,134 @@
 // Two plans compared as the rows of their jobs write them out. What the plans begin with in common is passed over, the rest of the right
-// one is written out in the second half of the area, behind the rows, and the rows of the left one are compared with what stands there.
+// one is written out in an area beside the rows, and the rows of the left one are compared with what stands there.
 #![tactic(auto)]
 
-ghost use Rattle.std.specs.Prelude.{◌≡◌, ◌++◌, ◌+◌, ◌-◌, ◌≤◌, length, take, drop};
-ghost use Rattle.area.specs.Areas.{put};
+ghost use Rattle.std.specs.Prelude.{◌≡◌, ◌++◌, ◌+◌, ◌≤◌, ◌↔◌, IsTrue, length, take};
 ghost use Rattle.bpa.specs.Method.{expand, first_difference};
+ghost use Rattle.rows.specs.Answers.{meaning};
 ghost use Rattle.rows.specs.Region.{row, Readable, Comparable, old_half};
-ghost use Rattle.rows.specs.Answers.{meaning, Leaps};
+ghost use Rattle.rows.specs.Rows.{rows_of};
 ghost use Rattle.form.specs.Written.{Tells};
-ghost use Rattle.comparing.specs.Comparisons.{Common, WrittenOut, Reaches};
+ghost use Rattle.comparing.specs.Comparisons.{Common, WrittenOut};
 
-use area::wide;
-use rows::{Difference, lesser, same_row};
+use rows::{Difference, Rows};
 
-// How many places up to an end two rows are equal from the front, in steps of 16. All of a step is looked at, so that its places are
-// compared at once.
-fn common_steps(left: &[u8], right: &[u8], end: usize) -> usize
-    requires { (end ≤ length left.now) × (end ≤ length right.now) }
-    ensures { (result ≤ end) × Common left.now right.now result }
-{
-    let mut i = 0;
-    while 16 <= end - i {
-        let to = i + 16;
-        if same_row(&left[i..to], &right[i..to]) {
-            i = to;
-            continue;
-        }
-        return i;
-    }
-    i
-}
-
-// How many places two rows are equal from the front.
+// How many places two rows are equal from the front. Steps of 16 places are compared at once.
 pub fn common(left: &[u8], right: &[u8]) -> usize
     ensures { Common left.now right.now result }
 {
-    let end = lesser(left.len(), right.len());
-    let mut i = common_steps(left, right, end);
-    while i < end {
-        if left[i] != right[i] {
-            return i;
-        }
-        i += 1;
-    }
-    i
-}
-
-// Copies bytes of an area to a later place of it.
-fn copy_up(area: &mut [u8], from: usize, to: usize, len: usize)
-    requires { (from + len ≤ to) × (to + len ≤ length area.old) }
-    ensures { area.new ≡ put to (take len (drop from area.old)) area.old }
-{
+    let end = left.len().min(right.len());
     let mut i = 0;
-    while i < len {
-        area[to + i] = area[from + i];
-        i += 1;
+    while 16 <= end - i && left[i..i + 16] == right[i..i + 16] {
+        i += 16;
     }
-}
-
-// Copies 16 bytes of an area to another place of it. They go by way of an array: the two places might overlap, so that bytes would be
-// copied one by one.
-fn copy_sixteen(area: &mut [u8], from: usize, to: usize)
-    requires { (from + 16 ≤ length area.old) × (to + 16 ≤ length area.old) }
-    ensures { area.new ≡ put to (take 16 (drop from area.old)) area.old }
-{
-    let mut part = [0u8; 16];
-    let end = from + 16;
-    area::put(&mut part, 0, &area[from..end]);
-    area::put(area, to, &part);
-}
-
-// Copies a row to a later place. A short one is copied as 16 bytes, whatever its length: what then stands behind it is left open.
-fn copy_row(area: &mut [u8], from: usize, to: usize, len: usize)
-    requires { (from + 16 ≤ to) × (from + len ≤ to) × (to + len ≤ length area.old) }
-    ensures { take (to + len) area.new ≡ take to area.old ++ take len (drop from area.old) }
-{
-    if len <= 16 {
-        if 16 <= area.len() - to {
-            copy_sixteen(area, from, to);
-            return;
+    for k in i..end {
+        if left[k] != right[k] {
+            return k;
         }
-    }
-    copy_up(area, from, to, len);
-}
-
-// The rows of a plan's jobs one behind the other, from the second half of the area on. It gives the place behind them.
-fn write_out(area: &mut [u8], lens: &[u16; 24], plan: &[u8]) -> usize
-    requires readable { Readable lens.now (old_half area.old) plan.now }
-    requires plan_in_bounds { 12288 + length (expand (row lens.now (old_half area.old)) plan.now) ≤ length area.old }
-    ensures { WrittenOut (expand (row lens.now (old_half area.old)) plan.now) area.old result area.new }
-{
-    let mut end = 12288;
-    let mut i = 0;
-    while i < plan.len() {
-        let job = wide(plan[i]);
-        let len = lens[job] as usize;
-        copy_row(area, 512 * job, end, len);
-        end += len;
-        i += 1;
     }
     end
 }
 
-// The place up to which a row is compared: its end, or where the other side ends, of which so many places are left.
-fn reach(k: usize, stop: usize, rest: usize) -> usize
-    requires { k ≤ stop }
-    ensures { Reaches k stop rest result }
+// Copies a row of so many places. A short one is copied as 16 bytes, whatever its length: what then stands behind it is left open.
+fn copy_row(from: &[u8], len: usize, out: &mut [u8], to: usize)
+    requires places { (16 ≤ length from.now) × (len ≤ length from.now) }
+    requires room { to + len ≤ length out.old }
+    ensures { take (to + len) out.new ≡ take to out.old ++ take len from.now }
 {
-    if stop - k <= rest {
-        return stop;
+    if len <= 16 && 16 <= out.len() - to {
+        area::put(out, to, &from[..16]);
+    } else {
+        area::put(out, to, &from[..len]);
     }
-    k + rest
 }
 
-// How many places may be passed over at once: all, if these are many and equal.
-fn leap(rows: &[u8], k: usize, to: usize, flat: &[u8], at: usize) -> usize
-    requires { (k ≤ to) × (to ≤ length rows.now) × (at + (to - k) ≤ length flat.now) }
-    ensures { Leaps rows.now k to flat.now at (at + (to - k)) result }
+// The rows of a plan's jobs one behind the other. It gives the place behind them.
+fn write_out(rows: &Rows, plan: &[u8], out: &mut [u8]) -> usize
+    requires readable { Readable rows.now.lens.now rows.now.bytes.now plan.now }
+    requires room { length (expand (rows_of rows.now) plan.now) ≤ length out.old }
+    ensures { WrittenOut (expand (rows_of rows.now) plan.now) result out.new }
 {
-    let n = to - k;
-    if 16 <= n {
-        let up = at + n;
-        if same_row(&rows[k..to], &flat[at..up]) {
-            return n;
-        }
+    let mut end = 0;
+    for &job in plan {
+        let job = usize::from(job);
+        let len = rows.len_of(job);
+        copy_row(&rows.bytes[512 * job..], len, out, end);
+        end += len;
+    }
+    end
+}
+
+// How many places a row and jobs may be passed over at once: as many as both have, if these are many and equal.
+fn leap(row: &[u8], jobs: &[u8]) -> usize
+    ensures { Common row.now jobs.now result }
+{
+    let reach = row.len().min(jobs.len());
+    if 16 <= reach && row[..reach] == jobs[..reach] {
+        return reach;
     }
     0
 }
 
-// The leftmost difference of a plan with each job expanded to its row, and jobs as they stand.
-fn difference(rows: &[u8], lens: &[u16; 24], plan: &[u8], flat: &[u8]) -> Difference
-    requires { Readable lens.now rows.now plan.now }
-    ensures { meaning result ≡ first_difference (expand (row lens.now rows.now) plan.now) flat.now }
+// The leftmost difference of a plan, each of its jobs written out as its row, and jobs as they stand.
+fn difference(rows: &Rows, plan: &[u8], flat: &[u8]) -> Difference
+    requires { Readable rows.now.lens.now rows.now.bytes.now plan.now }
+    ensures { meaning result ≡ first_difference (expand (rows_of rows.now) plan.now) flat.now }
 {
-    let mut i: usize = 0;
-    let mut at: usize = 0;
-    'places: loop {
-        if i == plan.len() {
-            if at == flat.len() {
-                break 'places Difference::Equal;
+    let mut rest = flat;
+    'places: {
+        for &job in plan {
+            let row = rows.row(usize::from(job));
+            let reach = row.len().min(rest.len());
+            for k in leap(row, rest)..reach {
+                let x = row[k];
+                let y = rest[k];
+                if x != y {
+                    break 'places Difference::Differ(x, y);
+                }
             }
-            break 'places Difference::Ends;
-        }
-        let job = wide(plan[i]);
-        i += 1;
-        let start = 512 * job;
-        let stop = start + lens[job] as usize;
-        let to = reach(start, stop, flat.len() - at);
-        let n = leap(rows, start, to, flat, at);
-        let mut k = start + n;
-        at += n;
-        while k < to {
-            let x = rows[k];
-            let y = flat[at];
-            if x != y {
-                break 'places Difference::Differ(x, y);
+            if reach < row.len() {
+                break 'places Difference::Ends;
             }
-            k += 1;
-            at += 1;
+            rest = &rest[reach..];
         }
-        if to < stop {
-            break 'places Difference::Ends;
+        if rest.is_empty() {
+            break 'places Difference::Equal;
         }
+        Difference::Ends
     }
 }
 
-// Whether two plans are the same as the rows in the first half of the area write them out. The second half is worked in.
+// Whether the rows of a plan's jobs one behind the other are these jobs.
+fn is_written(rows: &Rows, plan: &[u8], flat: &[u8]) -> bool
+    requires { Readable rows.now.lens.now rows.now.bytes.now plan.now }
+    ensures { IsTrue result ↔ (expand (rows_of rows.now) plan.now ≡ flat.now) }
+{
+    matches!(difference(rows, plan, flat), Difference::Equal)
+}
+
+// Whether two plans are the same as the rows write them out. The area is worked in.
+pub fn equal_plans(rows: &Rows, area: &mut [u8], left: &[u8], right: &[u8]) -> bool
+    requires comparable { Comparable rows.now.lens.now rows.now.bytes.now left.now right.now }
+    requires right_len_bound { length (expand (rows_of rows.now) right.now) ≤ length area.old }
+    ensures { IsTrue result ↔ (expand (rows_of rows.now) left.now ≡ expand (rows_of rows.now) right.now) }
+{
+    let n = common(left, right);
+    let end = write_out(rows, &right[n..], area);
+    is_written(rows, &left[n..], &area[..end])
+}
+
+// The same, with the rows in the first half of the area. The second half is worked in.
+#[tactic(auto, unfolding(rows::specs::Region::old_half))]
 pub fn same_plans(area: &mut [u8], lens: &[u16; 24], left: &[u8], right: &[u8]) -> bool
     requires comparable { Comparable lens.now (old_half area.old) left.now right.now }
     requires area_len { length area.old ≡ 24576 }
     requires right_len_bound { length (expand (row lens.now (old_half area.old)) right.now) ≤ 12288 }
     ensures { Tells result (expand (row lens.now (old_half area.old)) left.now) (expand (row lens.now (old_half area.old)) right.now) }
 {
-    let n = common(left, right);
-    let end = write_out(area, lens, &right[n..]);
-    match difference(&area[0..12288], lens, &left[n..], &area[12288..end]) {
-        Difference::Equal => true,
-        Difference::Ends => false,
-        Difference::Differ(_, _) => false,
-    }
+    let (bytes, rest) = area.split_at_mut(12288);
+    let rows = Rows {
+        bytes: bytes,
+        lens: lens,
+    };
+    equal_plans(&rows, rest, left, right)
 }

@@ -16,28 +16,30 @@ use Rattle.bpa.proofs.Basics.Plans.{over_right, sum_append, norm_positive, lengt
 use Rattle.decompositions.specs.Decompositions.{Tail}
 use Rattle.tails.specs.Cuts.{Reached}
 use Rattle.tails.proofs.Tails.{reached_tail, missed_tail}
-use Rattle.facts.specs.Facts.{norms_in, jobs_in, table_by, Tables}
+use Rattle.facts.specs.Columns.{norms_in, jobs_in, table_by}
+use Rattle.facts.specs.declared.Facts.{Facts}
+use Rattle.facts.proofs.TableFacts.{tables}
 use Rattle.candidates.specs.Candidates.{Lowered}
 use Rattle.candidates.proofs.JobsOfTable.{job_by, over_below}
 
 -- the one tail of a job
-pub record FoundTail (rs facts : List ℕ) (e : Rows) (y x : ℕ) (tail : List ℕ) : Type 0 where
-  pub inside : over (table_by facts rs) tail ≡ true
+pub record FoundTail (facts : Facts) (e : Rows) (y x : ℕ) (tail : List ℕ) : Type 0 where
+  pub inside : over (table_by facts) tail ≡ true
   pub short : length tail < 512
-  pub ends : Tail (table_by facts rs) (norms_in facts) e y x tail
-  pub only : (other : List ℕ) → Tail (table_by facts rs) (norms_in facts) e y x other → other ≡ tail
+  pub ends : Tail (table_by facts) (norms_in facts) e y x tail
+  pub only : (other : List ℕ) → Tail (table_by facts) (norms_in facts) e y x other → other ≡ tail
 
-module _ (rs sums next facts : List ℕ) (tables : Tables rs sums next facts) (e : Rows) (y x : ℕ) (hy : y < jobs_in facts) (hx : x < jobs_in facts)
-    (low : List ℕ) (l : Lowered rs facts e y low) (goal : ℕ) (goal_is : goal ≡ get_or (norms_in facts) x 0 - 1)
+module _ (facts : Facts) (e : Rows) (y x : ℕ) (hy : y < jobs_in facts) (hx : x < jobs_in facts)
+    (low : List ℕ) (l : Lowered facts e y low) (goal : ℕ) (goal_is : goal ≡ get_or (norms_in facts) x 0 - 1)
     (at norm : ℕ) (r : Reached (norms_in facts) low goal at norm) where
   abbrev t : Table
-  t = table_by facts rs
+  t = table_by facts
 
   abbrev ns : List ℕ
   ns = norms_in facts
 
   some : 1 ≤ get_or ns x 0
-  some = norm_positive t ns tables.good x (job_by facts rs x hx)
+  some = norm_positive t ns (tables facts).good x (job_by facts x hx)
 
   -- what stands before a tail has the norm that the cut is to have
   front_norm : (tail : List ℕ) (k : Tail t ns e y x tail) → sum_of ns k.front ≡ goal
@@ -66,15 +68,15 @@ module _ (rs sums next facts : List ℕ) (tables : Tables rs sums next facts) (e
     tail_norm =
         omega (arith, some, l.norm, r.place.norm_is, ap (sum_of ns) parts, sum_append ns (take at low) tail)
 
-    pub tail_found : FoundTail rs facts e y x tail
+    pub tail_found : FoundTail facts e y x tail
     tail_found = record {
       inside = inside;
-      short = omega (arith, some, tail_norm, length_norm t ns tables.good tail inside, tables.small y hy);
+      short = omega (arith, some, tail_norm, length_norm t ns (tables facts).good tail inside, (tables facts).small y hy);
       ends = record { front = take at low; parts = sym l.is ∙ parts; norm = tail_norm };
       only = λ other k.
           reached_tail ns low goal at norm r k.front other (l.is ∙ k.parts) (front_norm other k)
           (λ i b.
-          norm_positive t ns tables.good (get_or low i 0)
-          (job_by facts rs (get_or low i 0) (below_at (jobs_in facts) low i (over_below facts rs low l.inside) b)))
+          norm_positive t ns (tables facts).good (get_or low i 0)
+          (job_by facts (get_or low i 0) (below_at (jobs_in facts) low i (over_below facts low l.inside) b)))
           is;
     }

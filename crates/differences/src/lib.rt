@@ -1,25 +1,20 @@
 // The leftmost difference of two plans that are written out by their rows.
 #![tactic(auto)]
 
-ghost use Rattle.std.specs.Prelude.{◌≡◌, ◌++◌, ◌≤◌, ◌<◌, length, get_or};
+ghost use Rattle.std.specs.Prelude.{◌≡◌, ◌++◌, ◌≤◌, ◌<◌, ◌↔◌, IsTrue, length, get_or};
 ghost use Rattle.bpa.specs.Method.{first_difference, expand};
-ghost use Rattle.rows.specs.Region.{row, Comparable};
-ghost use Rattle.rows.specs.Answers.{meaning, Decides, Leaps};
+ghost use Rattle.rows.specs.Region.{Comparable};
+ghost use Rattle.rows.specs.Rows.{rows_of};
+ghost use Rattle.rows.specs.Answers.{meaning, Leaps};
 ghost use Rattle.differences.specs.Sides.{Passes, side, RightEnds};
 
-use area::wide;
-use rows::Difference;
+use rows::{Difference, Rows};
 
 // Whether the right side begins a job here, and it is the one that the left side begins: its row needs no look.
 fn passes(begins: bool, plan: &[u8], at: usize, job: u8) -> bool
     ensures { Passes begins plan.now at job result }
 {
-    if begins {
-        if at < plan.len() {
-            return plan[at] == job;
-        }
-    }
-    false
+    begins && at < plan.len() && plan[at] == job
 }
 
 // How many places two rows that were just entered may be passed over at once: up to the nearer end, if these are many and equal.
@@ -35,77 +30,34 @@ fn leap(
     requires { (k ≤ stop) × (stop ≤ length left.now) × (at ≤ end) × (end ≤ length right.now) }
     ensures { Leaps left.now k stop right.now at end result }
 {
-    if entered {
-        let n = rows::lesser(stop - k, end - at);
-        if 16 <= n {
-            let to = k + n;
-            let up = at + n;
-            if rows::same_jobs(&left[k..to], &right[at..up]) {
-                return n;
-            }
-        }
+    let n = (stop - k).min(end - at);
+    if entered && 16 <= n && left[k..k + n] == right[at..at + n] {
+        return n;
     }
     0
 }
 
-// The same where the right side is in its rows, or in what stands behind them.
-fn leap_from(
-    entered: bool,
-    behind: bool,
-    rows: &[u8],
-    rest: &[u8],
-    k: usize,
-    stop: usize,
-    at: usize,
-    end: usize,
-) -> usize
-    requires { (k ≤ stop) × (stop ≤ length rows.now) × (at ≤ end) × (end ≤ length (side behind rows.now rest.now)) }
-    ensures { Leaps rows.now k stop (side behind rows.now rest.now) at end result }
+// Where the right side is read: in the rows, or in what stands behind them.
+#[tactic(auto, unfolding(crate::specs::Sides::side))]
+fn right_side<'a>(behind: bool, rows: &'a [u8], rest: &'a [u8]) -> &'a [u8]
+    ensures { result.now ≡ side behind rows.now rest.now }
 {
-    if behind {
-        return leap(entered, rows, k, stop, rest, at, end);
-    }
-    leap(entered, rows, k, stop, rows, at, end)
-}
-
-// The job at a place of the right side.
-fn job_on(behind: bool, rows: &[u8], rest: &[u8], at: usize) -> u8
-    requires { at < length (side behind rows.now rest.now) }
-    ensures { result ≡ get_or (side behind rows.now rest.now) at 0 }
-{
-    if behind {
-        return rest[at];
-    }
-    rows[at]
+    if behind { rest } else { rows }
 }
 
 // Whether the right side has come to its end: no place of the row that it is in, no further row, nothing behind them.
 fn right_ends(behind: bool, q: &[u8], rest: &[u8], t: usize, at: usize, end: usize) -> bool
-    ensures { Decides result (RightEnds behind q.now rest.now t at end) }
+    ensures { IsTrue result ↔ RightEnds behind q.now rest.now t at end }
 {
-    if at < end {
-        return false;
-    }
-    if t < q.len() {
-        return false;
-    }
-    if behind {
-        return true;
-    }
-    rest.len() == 0
+    end <= at && q.len() <= t && (behind || rest.is_empty())
 }
 
 // Two plans with each job expanded to its row, and a row behind the right one that is taken as it stands. The rows are never empty, so
-// entering the next right row is one test.
-pub fn first_difference(
-    rows: &[u8],
-    lens: &[u16; 24],
-    p: &[u8],
-    q: &[u8],
-    rest: &[u8],
-) -> Difference
-    requires { Comparable lens.now rows.now p.now q.now }
-    ensures { meaning result ≡ first_difference (expand (row lens.now rows.now) p.now) (expand (row lens.now rows.now) q.now ++ rest.now) }
+// entering the next right row is one test. The loops over the left plan and over a row's places stand as they are, left by a label where two
+// jobs differ: that is the form of this comparison.
+pub fn first_difference(rows: &Rows, p: &[u8], q: &[u8], rest: &[u8]) -> Difference
+    requires { Comparable rows.now.lens.now rows.now.bytes.now p.now q.now }
+    ensures { meaning result ≡ first_difference (expand (rows_of rows.now) p.now) (expand (rows_of rows.now) q.now ++ rest.now) }
 {
     let mut i: usize = 0;
     let mut t: usize = 0;
@@ -125,9 +77,9 @@ pub fn first_difference(
             t += 1;
             continue 'places;
         }
-        let job = wide(next);
+        let job = usize::from(next);
         let mut k = 512 * job;
-        let stop = k + lens[job] as usize;
+        let stop = k + rows.len_of(job);
         let mut entered = true;
         while k < stop {
             if at == end {
@@ -141,21 +93,22 @@ pub fn first_difference(
                     end = rest.len();
                     continue;
                 }
-                let other = wide(q[t]);
+                let other = usize::from(q[t]);
                 t += 1;
                 at = 512 * other;
-                end = at + lens[other] as usize;
+                end = at + rows.len_of(other);
                 continue;
             }
-            let n = leap_from(entered, behind, rows, rest, k, stop, at, end);
+            let right = right_side(behind, rows.bytes, rest);
+            let n = leap(entered, rows.bytes, k, stop, right, at, end);
             if 0 < n {
                 k += n;
                 at += n;
                 continue;
             }
             entered = false;
-            let x = rows[k];
-            let y = job_on(behind, rows, rest, at);
+            let x = rows.bytes[k];
+            let y = right[at];
             if x != y {
                 break 'places Difference::Differ(x, y);
             }

@@ -1,49 +1,38 @@
 // The rule of a job whose run is the earliest, by the chain of its rules.
 #![tactic(auto)]
 
-ghost use Rattle.std.specs.Prelude.{get_or};
-ghost use Rattle.rules.specs.Places.{rule_at};
-ghost use Rattle.norm.specs.NormArrays.{GoodNorms};
-ghost use Rattle.lowering.specs.Lowering.{Picks, Chosen};
+ghost use Rattle.std.specs.Prelude.{ℕ, get_or, ◌≤◌, ◌<◌};
+ghost use Rattle.rules.specs.Places.{rule_at, rule_count};
+ghost use Rattle.lowering.specs.Lowering.{Picks};
 ghost use Rattle.least_moves.specs.Chains.{ChainFrom};
 
-use area::wide;
 use move_order::comes_before;
-use rule_runs::make_run;
-use rules::rule_total;
+use rule_runs::{Kept, make_run};
 
 // The rule of a job by which its first run begins; the first rule of its chain is given.
-pub fn first_rule(
-    jobs: usize,
-    rules: &[u8],
-    norms: &[u16; 24],
-    next: &[u8; 252],
-    start: usize,
-    low: &[u8; 24],
-    rows: &[u8],
-) -> usize
-    requires good_norms { GoodNorms jobs rules.now norms.now }
-    requires chain_from { ChainFrom rules.now norms.now next.now (rule_at rules.now start).job start }
-    requires chosen { Chosen jobs rules.now norms.now low.now rows.now (get_or norms.now (rule_at rules.now start).job 0) }
-    ensures { Picks jobs rules.now norms.now (rule_at rules.now start).job result }
+pub fn first_rule(kept: &Kept, next: &[u8; 252], start: usize) -> usize
+    requires chain_from { ChainFrom kept.now.table.rules.now kept.now.table.norms.now next.now (rule_at kept.now.table.rules.now start).job start }
+    requires moves { (i : ℕ) → i < rule_count kept.now.table.rules.now → (rule_at kept.now.table.rules.now i).move < 65536 }
+    requires known { get_or kept.now.table.norms.now (rule_at kept.now.table.rules.now start).job 0 ≤ kept.now.below }
+    ensures { Picks kept.now.table.jobs kept.now.table.rules.now kept.now.table.norms.now (rule_at kept.now.table.rules.now start).job result }
 {
-    let total = rule_total(rules);
-    let mut i = wide(next[start]);
+    let total = kept.table.list().count();
+    let mut i = usize::from(next[start]);
     if total <= i {
         return start;
     }
     let mut best = [0u8; 1024];
     let mut made = [0u8; 1024];
     let mut rule = start;
-    let n = make_run(jobs, rules, norms, low, rows, start, &mut best, 0);
+    let n = make_run(kept, start, &mut best, 0);
+    // along the chain of its rules, which no range goes over
     while i < total {
-        let k = i;
-        i = wide(next[k]);
-        make_run(jobs, rules, norms, low, rows, k, &mut made, 0);
-        if comes_before(&made[0..n], &best[0..n]) {
-            make_run(jobs, rules, norms, low, rows, k, &mut best, 0);
-            rule = k;
+        make_run(kept, i, &mut made, 0);
+        if comes_before(&made[..n], &best[..n]) {
+            best[..n].copy_from_slice(&made[..n]);
+            rule = i;
         }
+        i = usize::from(next[i]);
     }
     rule
 }

@@ -1,5 +1,5 @@
 -- From good norms to the prime rows, and from these to the answers. Assumes nothing.
-use mathlib.Core.Path.{◌≡◌, sym, ap, ◌∙◌, subst}
+use mathlib.Core.Path.{◌≡◌, sym, ap, ap₂, ◌∙◌, subst}
 use mathlib.Core.Bool.{Bool, true}
 use mathlib.Core.List.{List}
 use Prim.Native.Nat.{ℕ, ◌+◌, ◌≤◌, ◌<◌, min}
@@ -7,21 +7,20 @@ use native.Mathlib.Omega.{arith}
 use lib.IntN.{ℤ, pos, negsuc}
 use lib.ListN.{length, take}
 use Rattle.bpa.specs.Plans.{Table, all_below, over}
-use Rattle.bpa.specs.Norms.{sum_of, norms, Good}
+use Rattle.bpa.specs.Norms.{sum_of, Good}
 use Rattle.bpa.specs.Method.{expand, same, prime_form}
 use Rattle.bpa.proofs.Basics.Cases.{same_test}
 use Rattle.bpa.proofs.Basics.Plans.{length_norm}
 use Rattle.decompositions.specs.Decompositions.{Final}
 use Rattle.decompositions.proofs.Expansions.{decomposed_over, decomposed_norm}
 use Rattle.rules.specs.Places.{table_of}
-use Rattle.norm.specs.NormArrays.{GoodNorms}
-use Rattle.refusal.proofs.NormArray.{array_good}
-use Rattle.prepare.specs.Prepared.{Normed}
 use Rattle.rows.specs.Region.{row, Within, Readable, Comparable, old_half}
 use Rattle.rows.proofs.WrittenPlans.{within_readable}
 use Rattle.form.specs.Written.{Tells}
 use Rattle.form.proofs.Lengths.{form_long}
-use Rattle.facts.specs.Facts.{table_by, FactsOf}
+use Rattle.facts.specs.Columns.{norms_in, table_by, FactsAbout}
+use Rattle.facts.specs.declared.Facts.{Facts}
+use Rattle.facts.proofs.TableFacts.{tables}
 use Rattle.refining.specs.Rounds.{FinalIn}
 use Rattle.answer.specs.Answer.{Writes}
 use Rattle.answer.proofs.Answers.{too_short, written}
@@ -55,33 +54,17 @@ module _
     told = λ a p q o u s. same_test a (same t p q) (λ e. f.equal_same p q o u (s.same e)) (λ e. s.told (f.same_equal p q o u e));
   }
 
-module _ (n : ℕ) (rs ns : List ℕ) (g : GoodNorms n rs ns) where
-  good : Good (table_of n rs) ns
-  good = array_good (table_of n rs) ns g.good g.exact
+-- the rows of a table of which the facts speak
+module _ {n : ℕ} {rs ns : List ℕ} {facts : Facts} (f : FactsAbout n rs ns facts) where
+  same_table : table_by facts ≡ table_of n rs
+  same_table = ap₂ table_of f.count f.rules_are
 
-  pub normed : Normed n rs ns
-  normed = record { list = g.list; good = good; small = λ j h. g.exact.few j }
-
-  module _ (sums next facts : List ℕ) (f : FactsOf n rs ns sums next facts) where
-    -- the table of the facts is the table of the list
-    same_table : table_by facts rs ≡ table_of n rs
-    unfolding table_by
-    same_table = ap (λ (k : ℕ). table_of k rs) f.count
-
-    pub rounds_good : Good (table_by facts rs) (norms (table_by facts rs))
-    rounds_good = subst (λ t. Good t (norms t)) (sym same_table) g.good
-
-    final_of : (lens area : List ℕ) → FinalIn rs facts lens area → Final (table_of n rs) ns (row lens (old_half area))
-    final_of lens area l =
-        subst (λ t. Final t ns (row lens (old_half area))) same_table
-        (subst (λ k. Final (table_by facts rs) k (row lens (old_half area))) f.norms_are l.final)
-
-    within_of : (lens area : List ℕ) → FinalIn rs facts lens area → Within n lens (old_half area)
-    within_of lens area l = subst (λ k. Within k lens (old_half area)) f.count l.within
-
-    pub prime_rows_in : (lens area : List ℕ) → FinalIn rs facts lens area → PrimeRows (table_of n rs) ns lens (take 12288 area)
-    unfolding table_of old_half
-    prime_rows_in lens area l = final_prime (table_of n rs) ns good lens (take 12288 area) (within_of lens area l) (final_of lens area l)
+  pub prime_rows_in : {lens area : List ℕ} → FinalIn facts lens area → PrimeRows (table_of n rs) ns lens (take 12288 area)
+  unfolding table_of old_half
+  prime_rows_in {lens} {area} l =
+      subst (λ (t : Table). PrimeRows t ns lens (take 12288 area)) same_table
+      (subst (λ (k : List ℕ). PrimeRows (table_by facts) k lens (take 12288 area)) f.norms_are
+      (final_prime (table_by facts) (norms_in facts) (tables facts).good lens (take 12288 area) l.within l.final))
 
 -- WHAT THE PRIME ROWS ANSWER
 module _ (n : ℕ) (rs ns lens region : List ℕ) (r : PrimeRows (table_of n rs) ns lens region) where

@@ -1,30 +1,14 @@
--- What two rules leave, as comparisons of written plans ask and tell of it. Assumes nothing.
-use mathlib.Core.Path.{◌≡◌, sym, ap, ◌∙◌, subst}
-use mathlib.Core.Bool.{Bool, true}
-use mathlib.Core.List.{List, ◌++◌}
-use Prim.Native.Nat.{ℕ, ◌<◌}
-use Rattle.bpa.specs.Plans.{all_below}
+-- What two rules leave, as comparisons of written plans tell of it. Assumes nothing.
+use Rattle.std.proofs.Common.{◌≡◌, Bool, List, ◌++◌, ℕ, ◌↔◌, IsTrue, sym, ap, ◌∙◌}
 use Rattle.bpa.specs.Method.{Rows, expand}
-use Rattle.rules.specs.Places.{rule_at, rule_count}
-use Rattle.rules.specs.Lists.{GoodList}
-use Rattle.rules.proofs.ListLaws.{good_rule}
-use Rattle.rows.specs.Region.{Within, Comparable}
-use Rattle.rows.specs.Answers.{Decides}
-use Rattle.form.specs.Written.{Tells}
+use Rattle.rules.specs.Places.{rule_at}
 use Rattle.equal_remainders.specs.EqualRemainders.{LeftEqual}
 
-pub afters_comparable : (jobs : ℕ) (rs lens region : List ℕ) → GoodList jobs rs → Within jobs lens region → (r s : ℕ) (p q : List ℕ) →
-    r < rule_count rs → s < rule_count rs → p ≡ (rule_at rs r).after → q ≡ (rule_at rs s).after → Comparable lens region p q
-afters_comparable jobs rs lens region list within r s p q h k e f = record {
-  jobs = jobs;
-  within = within;
-  left = subst (λ (l : List ℕ). all_below jobs l ≡ true) (sym e) (good_rule jobs rs list r h).after;
-  right = subst (λ (l : List ℕ). all_below jobs l ≡ true) (sym f) (good_rule jobs rs list s k).after;
-}
-
-pub afters_tell : (e : Rows) (rs rest : List ℕ) (r s : ℕ) (p q : List ℕ) (out : Bool) → p ≡ (rule_at rs r).after → q ≡ (rule_at rs s).after →
-    Tells out (expand e p) (expand e q ++ rest) → Decides out (LeftEqual e rs rest r s)
-afters_tell e rs rest r s p q out f g t =
-    let left = ap (expand e) f in
-    let right = ap (λ (l : List ℕ). expand e l ++ rest) g in
-    record { yes = λ h. sym left ∙ t.same h ∙ right; no = λ a. t.told (left ∙ a ∙ sym right) }
+pub afters_tell : (e : Rows) (rs bytes rest tail : List ℕ) (r s : ℕ) (p q : List ℕ) (out : Bool) → bytes ≡ rs → p ≡ (rule_at bytes r).after →
+    q ≡ (rule_at bytes s).after → tail ≡ rest → (IsTrue out ↔ (expand e p ≡ expand e q ++ tail)) → IsTrue out ↔ LeftEqual e rs rest r s
+afters_tell e rs bytes rest tail r s p q out same p_is q_is tail_is t =
+    let left : expand e p ≡ expand e (rule_at rs r).after = ap (expand e) (p_is ∙ ap (λ (l : List ℕ). (rule_at l r).after) same) in
+    let right : expand e q ++ tail ≡ expand e (rule_at rs s).after ++ rest =
+    ap (λ (l : List ℕ). expand e l ++ tail) (q_is ∙ ap (λ (l : List ℕ). (rule_at l s).after) same)
+    ∙ ap (λ (l : List ℕ). expand e (rule_at rs s).after ++ l) tail_is in
+    (λ h. sym left ∙ t.0 h ∙ right, λ a. t.1 (left ∙ a ∙ sym right))

@@ -1,40 +1,42 @@
 // Whether what two rules leave is equal by rows: by the new ones if the norm falls, else by the old ones.
 #![tactic(auto)]
 
-ghost use Rattle.std.specs.Prelude.{ℕ, ◌<◌, drop};
+ghost use Rattle.std.specs.Prelude.{◌<◌, ◌↔◌, IsTrue, drop};
 ghost use Rattle.std.proofs.Math.Seq.{slice};
 ghost use Rattle.rules.specs.Places.{rule_count};
-ghost use Rattle.rows.specs.Region.{row, old_half, new_half};
-ghost use Rattle.rows.specs.Answers.{Decides};
+ghost use Rattle.rows.specs.Rows.{rows_of};
+ghost use Rattle.facts.specs.Columns.{jobs_in, bytes_in};
 ghost use Rattle.remainders.specs.Remainders.{EqualNorms};
-ghost use Rattle.equal_remainders.specs.EqualRemainders.{Halves, LeftEqual, rows_for, rest_for};
+ghost use Rattle.equal_remainders.specs.EqualRemainders.{BothRows, LeftEqual, rows_for, rest_for};
 
-use form::same_forms;
-use rules::rule_after;
+use facts::Facts;
+use form::equal_forms;
+use rows::Rows;
+use rule_filter::Pair;
 
 // Whether what rule r of Y and rule s of X leave is equal, the tail standing behind X: by the new rows if the norm falls, else by the old ones.
 // It is written out for that, so it is asked of equal norms only.
 pub fn left_equal(
-    rules: &[u8],
-    old: &[u16; 24],
-    new: &[u16; 24],
-    area: &[u8],
+    facts: &Facts,
+    old: &Rows,
+    new: &Rows,
     parts: &[u8],
-    from: usize,
-    to: usize,
+    pair: &Pair,
     falls: bool,
     r: usize,
     s: usize,
 ) -> bool
-    requires halves { Halves rules.now old.now new.now area.now parts.now from to }
-    requires by_index { (jobs : ℕ) × EqualNorms jobs rules.now (drop 1 parts.now) r s }
-    requires r_bound { (r < rule_count rules.now) × (s < rule_count rules.now) }
-    ensures { Decides result (LeftEqual (rows_for falls (row old.now (old_half area.now)) (row new.now (new_half area.now))) rules.now (rest_for falls (slice from to area.now) (drop 1 parts.now)) r s) }
+    requires both_rows { BothRows (jobs_in facts.now) old.now new.now parts.now pair.now }
+    requires equal_norms { EqualNorms (jobs_in facts.now) (bytes_in facts.now) (drop 1 parts.now) r s }
+    requires are_rules { (r < rule_count (bytes_in facts.now)) × (s < rule_count (bytes_in facts.now)) }
+    ensures { IsTrue result ↔ LeftEqual (rows_for falls (rows_of old.now) (rows_of new.now)) (bytes_in facts.now) (rest_for falls (slice pair.now.from pair.now.to old.now.bytes.now) (drop 1 parts.now)) r s }
 {
-    let left = rule_after(rules, r);
-    let right = rule_after(rules, s);
+    let rules = facts.table.list();
+    let left = rules.after(r);
+    let right = rules.after(s);
     if falls {
-        return same_forms(&area[12288..24576], new, left, right, &parts[1..]);
+        equal_forms(new, left, right, &parts[1..])
+    } else {
+        equal_forms(old, left, right, &old.bytes[pair.from..pair.to])
     }
-    same_forms(&area[0..12288], old, left, right, &area[from..to])
 }

@@ -1,4 +1,3 @@
 -- Laws of what the rounds look up about jobs.
-pub mod Columns
-pub mod FactsMade
-pub mod Lookups
+pub mod RepeatedRules
+pub mod TableFacts

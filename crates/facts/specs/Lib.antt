@@ -1,2 +1,2 @@
 -- What the rounds look up about the jobs of a table.
-pub mod Facts
+pub mod Columns

@@ -1,6 +1,5 @@
 -- Laws of fingerprints.
-pub mod Prints
-pub mod Joins
+pub mod PrintLaws
 pub mod Digits
-pub mod PrintedRows
-pub mod PrintedRules
+pub mod Columns
+pub mod RuleNumbers

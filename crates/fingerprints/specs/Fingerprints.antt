@@ -1,9 +1,10 @@
 -- Fingerprints of rows and plans: the number whose digits to some base are the jobs, counted from 1, by a modulus. Assumes
 -- nothing: these are definitions.
-use Rattle.std.specs.Prelude.{◌≡◌, List, [], ◌∷◌, ℕ, suc, ◌+◌, ◌*◌, ◌%◌, ◌^◌, ◌≤◌, ◌<◌, length, get_or}
+use Rattle.std.specs.Prelude.{◌≡◌, false, Bool, List, [], ◌∷◌, ℕ, suc, ◌+◌, ◌*◌, ◌%◌, ◌^◌, ◌≤◌, ◌<◌, length, get_or}
 use Rattle.bpa.specs.Method.{Rows}
 use Rattle.rules.specs.Places.{rule_at, rule_count}
-use Rattle.rules.specs.Lists.{GoodList}
+use Rattle.fingerprints.specs.declared.Print.{Print}
+use Rattle.fingerprints.specs.declared.Prints.{Prints}
 
 -- any base and any modulus would do; by a prime modulus few unequal rows have equal fingerprints, however they are made
 unfoldable pub modulus : ℕ
@@ -25,66 +26,50 @@ pub record IsJoined (left power right r : ℕ) : Type 0 where
   pub is : r ≡ join left power right
   pub small : r < modulus
 
+-- a row, and another behind it
+pub record Joins (front behind both : Print) : Type 0 where
+  pub value : IsJoined front.value behind.power behind.value both.value
+  pub power : IsJoined front.power behind.power 0 both.power
+
 -- a fingerprint and its power
 pub record IsPrint (row : List ℕ) (value power : ℕ) : Type 0 where
   pub value_is : value ≡ number row % modulus
   pub power_is : power ≡ base ^ length row % modulus
 
 -- THE FINGERPRINTS of the rows of jobs, and their powers
-pub record Printed (jobs : ℕ) (d : Rows) (prints : List ℕ) : Type 0 where
-  pub size : length prints ≡ 300
-  pub value : (j : ℕ) → j < jobs → get_or prints j 0 ≡ number (d j) % modulus
-  pub power : (j : ℕ) → j < jobs → get_or prints (24 + j) 0 ≡ base ^ length (d j) % modulus
+pub record Printed (jobs : ℕ) (d : Rows) (prints : Prints) : Type 0 where
+  pub value : (j : ℕ) → j < jobs → get_or prints.values j 0 ≡ number (d j) % modulus
+  pub power : (j : ℕ) → j < jobs → get_or prints.powers j 0 ≡ base ^ length (d j) % modulus
 
 -- the same of the jobs whose rows have not moved since they were made
-pub record KnownPrints (jobs : ℕ) (d : Rows) (moved prints : List ℕ) : Type 0 where
-  pub size : length prints ≡ 300
-  pub value : (j : ℕ) → j < jobs → get_or moved j 0 ≡ 0 → get_or prints j 0 ≡ number (d j) % modulus
-  pub power : (j : ℕ) → j < jobs → get_or moved j 0 ≡ 0 → get_or prints (24 + j) 0 ≡ base ^ length (d j) % modulus
+pub record KnownPrints (jobs : ℕ) (d : Rows) (moved : List Bool) (prints : Prints) : Type 0 where
+  pub value : (j : ℕ) → j < jobs → get_or moved j false ≡ false → get_or prints.values j 0 ≡ number (d j) % modulus
+  pub power : (j : ℕ) → j < jobs → get_or moved j false ≡ false → get_or prints.powers j 0 ≡ base ^ length (d j) % modulus
 
 -- by the fingerprints of jobs, that of a plan behind another whose fingerprint is given, and its power
-unfoldable pub value_from : (prints : List ℕ) → (left : ℕ) → (plan : List ℕ) → ℕ
+unfoldable pub value_from : (prints : Prints) → (left : ℕ) → (plan : List ℕ) → ℕ
 value_from ps a [] = a
-value_from ps a (j ∷ js) = value_from ps (join a (get_or ps (24 + j) 0) (get_or ps j 0)) js
+value_from ps a (j ∷ js) = value_from ps (join a (get_or ps.powers j 0) (get_or ps.values j 0)) js
 
-unfoldable pub power_from : (prints : List ℕ) → (left : ℕ) → (plan : List ℕ) → ℕ
+unfoldable pub power_from : (prints : Prints) → (left : ℕ) → (plan : List ℕ) → ℕ
 power_from ps a [] = a
-power_from ps a (j ∷ js) = power_from ps (join a (get_or ps (24 + j) 0) 0) js
+power_from ps a (j ∷ js) = power_from ps (join a (get_or ps.powers j 0) 0) js
 
--- a plan each of whose jobs has its fingerprint
-pub record Printable (prints plan : List ℕ) : Type 0 where
-  pub job : (i : ℕ) → i < length plan → get_or plan i 0 < 24
-  pub value : (i : ℕ) → i < length plan → get_or prints (get_or plan i 0) 0 < modulus
-  pub power : (i : ℕ) → i < length plan → get_or prints (24 + get_or plan i 0) 0 < modulus
-
-pub record PlanPrint (prints plan : List ℕ) (value power : ℕ) : Type 0 where
+pub record PlanPrint (prints : Prints) (plan : List ℕ) (value power : ℕ) : Type 0 where
   pub value_is : value ≡ value_from prints 0 plan
   pub power_is : power ≡ power_from prints 1 plan
   pub value_small : value < modulus
   pub power_small : power < modulus
 
 -- a number for each rule, of what it leaves: its fingerprint and one more, or 0
-pub record RulePrint (prints after : List ℕ) (r : ℕ) : Type 0 where
+pub record RulePrint (prints : Prints) (after : List ℕ) (r : ℕ) : Type 0 where
   pub is : 0 < r → r ≡ suc (value_from prints 0 after)
   pub small : r ≤ modulus
 
-abbrev pub RulePrints : (rules prints : List ℕ) → Type 0
-RulePrints rs ps = (i : ℕ) → i < rule_count rs → RulePrint ps (rule_at rs i).after (get_or ps (48 + i) 0)
-
--- the jobs after each rule have fingerprints
-pub record CanPrint (rs prints : List ℕ) : Type 0 where
-  pub jobs : ℕ
-  pub list : GoodList jobs rs
-  pub size : length prints ≡ 300
-  pub printable : (i : ℕ) → i < rule_count rs → Printable prints (rule_at rs i).after
-
--- THE FINGERPRINTS OF RULES beside those of jobs, which are as they were
-pub record RulesPrinted (rs before after : List ℕ) : Type 0 where
-  pub size : length after ≡ 300
-  pub kept : (k : ℕ) → k < 48 → get_or after k 0 ≡ get_or before k 0
-  pub rules : RulePrints rs after
+abbrev pub RulePrints : (rules : List ℕ) → Prints → Type 0
+RulePrints rs ps = (i : ℕ) → i < rule_count rs → RulePrint ps (rule_at rs i).after (get_or ps.rules i 0)
 
 -- both
-pub record AllPrinted (rs : List ℕ) (jobs : ℕ) (d : Rows) (prints : List ℕ) : Type 0 where
+pub record AllPrinted (rs : List ℕ) (jobs : ℕ) (d : Rows) (prints : Prints) : Type 0 where
   pub jobs_printed : Printed jobs d prints
   pub rules_printed : RulePrints rs prints

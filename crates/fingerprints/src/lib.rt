@@ -1,134 +1,160 @@
-// Fingerprints of rows, as Karp and Rabin's: unequal ones show that two rows are unequal, before they are looked at place by place. Those
-// of the jobs' rows and of what the rules leave stand in one array: 24 values, 24 powers, and 252 numbers for rules, 0 for none.
+// Fingerprints of rows, as Karp and Rabin's: unequal ones show that two rows are unequal, before they are looked at place by place.
 #![tactic(auto)]
 
-ghost use Rattle.std.specs.Prelude.{◌≡◌, ◌<◌};
-ghost use Rattle.rules.specs.Lists.{GoodList};
-ghost use Rattle.rows.specs.Region.{row, Within};
-ghost use Rattle.fingerprints.specs.Fingerprints.{modulus, IsJoined, IsPrint, Printed, Printable, PlanPrint, CanPrint, KnownPrints, RulesPrinted, AllPrinted};
+ghost use Rattle.std.specs.Prelude.{◌≡◌, ℕ, ◌+◌, true, ◌<◌, ◌-◌, get_or};
+ghost use Rattle.bpa.specs.Plans.{all_below};
+ghost use Rattle.rules.specs.Places.{rule_at, rule_count};
+ghost use Rattle.facts.specs.Columns.{bytes_in, jobs_in};
+ghost use Rattle.rows.specs.Region.{Within};
+ghost use Rattle.rows.specs.Rows.{rows_of};
+ghost use Rattle.fingerprints.specs.Fingerprints.{IsJoined, Joins, IsPrint, Printed, PlanPrint, KnownPrints, RulePrint, RulePrints, AllPrinted};
 
-use area::wide;
-use rules::{rule_after, rule_job, rule_total};
+use facts::Facts;
+use rows::Rows;
+
+// A prime just below 2^32, so that two numbers below it and their product fit in 64 bits.
+const MODULUS: u64 = 4294967291;
+
+// Any base would do.
+const BASE: u32 = 2654435769;
+
+// Rules whose rows have a norm from here on may leave long rows.
+const LONG: u16 = 64;
 
 // The fingerprint of a row, and the power of the base by which it moves what stands in front.
-#[derive(Drop)]
+#[derive(Clone, Copy)]
 pub struct Print {
-    pub value: u64,
-    pub power: u64,
+    pub value: u32,
+    pub power: u32,
+}
+
+impl Print {
+    // The fingerprint of the row with another behind it.
+    fn then(self, behind: Print) -> Print
+        ensures { Joins self behind result }
+    {
+        Print {
+            value: joined(self.value, behind.power, behind.value),
+            power: joined(self.power, behind.power, 0),
+        }
+    }
+}
+
+// The fingerprints of the jobs' rows and their powers, and a number for each rule, of what it leaves: its fingerprint and one more, or 0 for
+// none, since an array of 252 options takes twice the stack.
+#[derive(Clone, Copy)]
+pub struct Prints {
+    pub values: [u32; 24],
+    pub powers: [u32; 24],
+    pub rules: [u32; 252],
+}
+
+impl Prints {
+    // The fingerprint of a job's row.
+    pub fn of_job(&self, job: usize) -> Print
+        requires { job < 24 }
+        ensures { (result.value ≡ get_or self.now.values job 0) × (result.power ≡ get_or self.now.powers job 0) }
+    {
+        Print {
+            value: self.values[job],
+            power: self.powers[job],
+        }
+    }
+
+    // The fingerprint of a plan.
+    pub fn of_plan(&self, plan: &[u8]) -> Print
+        requires { all_below 24 plan.now ≡ true }
+        ensures { PlanPrint self.now plan.now result.value result.power }
+    {
+        let mut print = Print { value: 0, power: 1 };
+        for &job in plan {
+            print = print.then(self.of_job(usize::from(job)));
+        }
+        print
+    }
+
+    // The value of the fingerprint of what a rule leaves, if it has one.
+    pub fn of_rule(&self, i: usize) -> Option<u32>
+        requires { i < 252 }
+        ensures some { (value : ℕ) → result ≡ Some value → get_or self.now.rules i 0 ≡ value + 1 }
+        ensures none { result ≡ None → get_or self.now.rules i 0 ≡ 0 }
+    {
+        self.rules[i].checked_sub(1)
+    }
 }
 
 // The fingerprint of a row with another behind it, whose power is given.
-pub fn joined(left: u64, power: u64, right: u64) -> u64
-    requires { (left < modulus) × (power < modulus) × (right < modulus) }
+pub fn joined(left: u32, power: u32, right: u32) -> u32
     ensures { IsJoined left power right result }
 {
-    (left * power + right) % 4294967291
+    ((u64::from(left) * u64::from(power) + u64::from(right)) % MODULUS) as u32
 }
 
-// A number of the array, as a wider one.
-pub fn wide_print(print: u32) -> u64
-    ensures { result ≡ print }
-{
-    print as u64
-}
-
-// The fingerprint of a row.
+// The fingerprint of a row. Jobs are counted from 1.
 fn row_print(row: &[u8]) -> Print
     ensures { IsPrint row.now result.value result.power }
 {
-    let mut value = 0;
-    let mut power = 1;
-    let mut i = 0;
-    while i < row.len() {
-        value = joined(value, 2654435769, wide(row[i]) as u64 + 1);
-        power = joined(power, 2654435769, 0);
-        i += 1;
+    let mut print = Print { value: 0, power: 1 };
+    for &job in row {
+        let digit = Print {
+            value: u32::from(job) + 1,
+            power: BASE,
+        };
+        print = print.then(digit);
     }
-    Print {
-        value: value,
-        power: power,
-    }
+    print
 }
 
-// The fingerprints of the rows of the first jobs of a region. Those of rows that have not moved are there.
-fn row_prints(rows: &[u8], lens: &[u16; 24], jobs: usize, moved: &[u8; 24], prints: &mut [u32; 300])
-    requires within { Within jobs lens.now rows.now }
-    requires known_prints { KnownPrints jobs (row lens.now rows.now) moved.now prints.old }
-    ensures { Printed jobs (row lens.now rows.now) prints.new }
+// The number of what a rule leaves: one more than its fingerprint if its row may be long, or if its job has many rules.
+fn rule_number(facts: &Facts, many: &[bool; 24], prints: &Prints, i: usize) -> u32
+    requires { i < rule_count (bytes_in facts.now) }
+    ensures { RulePrint prints.now (rule_at (bytes_in facts.now) i).after result }
 {
-    let mut j = 0;
-    while j < jobs {
-        let job = j;
-        j += 1;
-        if moved[job] == 0 {
-            continue;
+    let rules = facts.table.list();
+    if facts.sums[i] < LONG && !many[rules.job(i)] {
+        return 0;
+    }
+    prints.of_plan(rules.after(i)).value + 1
+}
+
+// The fingerprints of the rows of the first jobs. Those of rows that have not moved are there.
+fn row_prints(rows: &Rows, jobs: usize, moved: &[bool; 24], prints: &mut Prints)
+    requires within { Within jobs rows.now.lens.now rows.now.bytes.now }
+    requires known_prints { KnownPrints jobs (rows_of rows.now) moved.now prints.old }
+    ensures { Printed jobs (rows_of rows.now) prints.new }
+{
+    for job in 0..jobs {
+        if moved[job] {
+            let print = row_print(rows.row(job));
+            prints.values[job] = print.value;
+            prints.powers[job] = print.power;
         }
-        let start = 512 * job;
-        let end = start + lens[job] as usize;
-        let print = row_print(&rows[start..end]);
-        prints[job] = print.value as u32;
-        prints[24 + job] = print.power as u32;
     }
 }
 
-// The fingerprint of a plan, by those of its jobs' rows.
-pub fn plan_print(prints: &[u32; 300], plan: &[u8]) -> Print
-    requires { Printable prints.now plan.now }
-    ensures { PlanPrint prints.now plan.now result.value result.power }
+// The fingerprints of what the rules leave, by those of the jobs' rows, which stay.
+fn rule_prints(facts: &Facts, many: &[bool; 24], prints: &mut Prints)
+    ensures numbers { RulePrints (bytes_in facts.now) prints.new }
+    ensures values { prints.new.values ≡ prints.old.values }
+    ensures powers { prints.new.powers ≡ prints.old.powers }
 {
-    let mut value = 0;
-    let mut power = 1;
-    let mut i = 0;
-    while i < plan.len() {
-        let job = wide(plan[i]);
-        let behind = wide_print(prints[24 + job]);
-        value = joined(value, behind, wide_print(prints[job]));
-        power = joined(power, behind, 0);
-        i += 1;
-    }
-    Print {
-        value: value,
-        power: power,
+    for i in 0..facts.table.list().count() {
+        prints.rules[i] = rule_number(facts, many, prints, i);
     }
 }
 
-// The fingerprints of what the rules leave, by those of jobs' rows: of each rule whose row may be long, or whose job has many rules.
-fn rule_prints(rules: &[u8], sums: &[u16; 252], many: &[u8; 24], prints: &mut [u32; 300])
-    requires { CanPrint rules.now prints.old }
-    ensures { RulesPrinted rules.now prints.old prints.new }
-{
-    let total = rule_total(rules);
-    let mut i = 0;
-    while i < total {
-        let at = i;
-        i += 1;
-        if sums[at] < 64 {
-            if many[rule_job(rules, at)] == 0 {
-                prints[48 + at] = 0;
-                continue;
-            }
-        }
-        let print = plan_print(prints, rule_after(rules, at));
-        prints[48 + at] = print.value as u32 + 1;
-    }
-}
-
-// The fingerprints of the rows of the first jobs of a region, and of what rules leave by them.
+// The fingerprints of the rows of the jobs, and of what rules leave by them.
 pub fn all_prints(
-    rules: &[u8],
-    sums: &[u16; 252],
-    many: &[u8; 24],
-    rows: &[u8],
-    lens: &[u16; 24],
-    jobs: usize,
-    moved: &[u8; 24],
-    prints: &mut [u32; 300],
+    facts: &Facts,
+    many: &[bool; 24],
+    rows: &Rows,
+    moved: &[bool; 24],
+    prints: &mut Prints,
 )
-    requires good_list { GoodList jobs rules.now }
-    requires within { Within jobs lens.now rows.now }
-    requires known_prints { KnownPrints jobs (row lens.now rows.now) moved.now prints.old }
-    ensures { AllPrinted rules.now jobs (row lens.now rows.now) prints.new }
+    requires within { Within (jobs_in facts.now) rows.now.lens.now rows.now.bytes.now }
+    requires known_prints { KnownPrints (jobs_in facts.now) (rows_of rows.now) moved.now prints.old }
+    ensures { AllPrinted (bytes_in facts.now) (jobs_in facts.now) (rows_of rows.now) prints.new }
 {
-    row_prints(rows, lens, jobs, moved, prints);
-    rule_prints(rules, sums, many, prints);
+    row_prints(rows, facts.table.jobs, moved, prints);
+    rule_prints(facts, many, prints);
 }

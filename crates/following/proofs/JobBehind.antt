@@ -10,13 +10,14 @@ use Rattle.bpa.specs.Plans.{Table}
 use Rattle.replay.specs.Ends.{last, Ends, Gets}
 use Rattle.replay.proofs.EndsLaws.{last_last, ends_join, gets_join, gets_front, ends_split, gets_split}
 use Rattle.reach.specs.Reaches.{HoldsWord}
+use Rattle.reach.specs.declared.Reach.{Reach}
 use Rattle.reach.proofs.ReachLaws.{reaches_cleared, reaches_as}
 use Rattle.following.specs.Followed.{cell_of, PlanReaches, OneMore, WordMore, JobMore}
 use Rattle.following.proofs.WordWalk.{through_later}
 
 module _ (t : Table) (log p : List ℕ) (d x : ℕ) where
   -- nothing yet
-  more_first : {a b c : ℕ} → PlanReaches t log p d a b c → OneMore t log p d x 0 0 0 c
+  more_first : {a : Reach} → PlanReaches t log p d a → OneMore t log p d x 0 (record { low = 0; high = 0; least = a.least })
   more_first r =
       reaches_as
       (λ e. ((λ n. absurd n), (λ w. let (s, l, k, f) = w in omega (arith, l))))
@@ -34,7 +35,7 @@ module _ (t : Table) (log p : List ℕ) (d x : ℕ) where
     same : (s : ℕ) → Ends t p l s → last s l ≡ last s log
     same s e = last_last s d log (le_of_lt (later s e)) inside
 
-    more_all : {a b c : ℕ} → OneMore t log p d x 128 a b c → PlanReaches t log (p ++ (x ∷ [])) d a b c
+    more_all : {a : Reach} → OneMore t log p d x 128 a → PlanReaches t log (p ++ (x ∷ [])) d a
     more_all =
         reaches_as
         (λ e. (
@@ -60,12 +61,12 @@ lows A n h k l =
     ((λ b. subst A e ((h k l).0 b)), (λ y. (h k l).1 (subst A (sym e) y)))
 
 -- BOTH WORDS, one after the other
-pub both_words : (cells : List ℕ) (x first low high least a b c u v w : ℕ) → first ≡ cell_of x 0 →
-    WordMore cells first low 0 0 least a b c → WordMore cells (first + 64) high a b c u v w → JobMore cells x low high least u v w
+pub both_words : (cells : List ℕ) (x first : ℕ) (a half c : Reach) → first ≡ cell_of x 0 →
+    WordMore cells first a.low (record { low = 0; high = 0; least = a.least }) half → WordMore cells (first + 64) a.high half c → JobMore cells x a c
 unfolding cell_of
-both_words cells x first low high least a b c u v w is one two = record {
+both_words cells x first a half c is one two = record {
   more = λ t log p d known some job r.
-      let half = one.more t log p d x 0 known some job is (lows (Ends t p (last d log)) low r.low_holds) (more_first t log p d x r) in
-      let whole = two.more t log p d x 64 known some job (omega (arith, is)) r.high_holds half in
+      let low = one.more t log p d x 0 known some job is (lows (Ends t p (last d log)) a.low r.low_holds) (more_first t log p d x r) in
+      let whole = two.more t log p d x 64 known some job (omega (arith, is)) r.high_holds low in
       more_all t log p d x known.inside known.log_short some whole;
 }

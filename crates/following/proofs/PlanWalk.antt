@@ -9,26 +9,38 @@ use native.Mathlib.Numerals.{add-one}
 use lib.Bits.{bit_or}
 use lib.Dec.{ltb}
 use lib.ListN.{length, get_or, take, drop, take-append-drop, length-take}
-use lib.Seq.{take-suc, take_all}
+use lib.Seq.{take-suc, take_all, get_or-take, get_or-drop}
 use borrow.Author.Tests.{ltb-true, ltb-false}
 use Rattle.bpa.specs.Plans.{Table, over}
 use Rattle.bpa.proofs.Basics.Cases.{by_test}
 use Rattle.bpa.proofs.Basics.JobsBelow.{below_at}
 use Rattle.replay.specs.Ends.{last, Ends}
 use Rattle.replay.proofs.EndsLaws.{ends_split, gets_split, gets_front, length_last, none_ends, none_gets, ends_gets}
-use Rattle.reach.specs.Cells.{InCell}
+use Rattle.reach.specs.Cells.{reach_in}
+use Rattle.reach.specs.declared.Reach.{Reach}
 use Rattle.bits.specs.Bits.{bit}
 use Rattle.reach.specs.Reaches.{Reaches, Alone}
 use Rattle.reach.proofs.WordBits.{holds_none, holds_either}
 use Rattle.reach.proofs.ReachLaws.{reaches_as}
 use Rattle.following.specs.Followed.{cell_of, KnownCells, PlanReaches, JobMore, Follows}
 
+-- a job behind the first
+pub rest_inside : (plan : List ℕ) (k : ℕ) → k < length (take (length plan - 1) (drop 1 plan)) → k + 1 < length plan
+rest_inside plan k h = omega (arith, length-take (length plan - 1) (drop 1 plan))
+
+pub rest_at : (plan : List ℕ) (k : ℕ) → k < length (take (length plan - 1) (drop 1 plan)) →
+    get_or (take (length plan - 1) (drop 1 plan)) k 0 ≡ get_or plan (k + 1) 0
+rest_at plan k h =
+    let next : 1 + k ≡ k + 1 = omega arith in
+    get_or-take (length plan - 1) (drop 1 plan) k 0 (omega (arith, rest_inside plan k h)) ∙ get_or-drop 1 plan k 0
+    ∙ ap (λ (n : ℕ). get_or plan n 0) next
+
 -- THE WALK: what the front of the plan reaches
-pub record Following (cells plan : List ℕ) (left low high least i : ℕ) : Type 0 where
+pub record Following (cells plan : List ℕ) (left : ℕ) (reach : Reach) (i : ℕ) : Type 0 where
   pub begun : 1 ≤ i
   pub inside : i ≤ length plan
   pub reached : (t : Table) (log : List ℕ) → KnownCells t log left cells → over t plan ≡ true →
-      PlanReaches t log (take i plan) left low high least
+      PlanReaches t log (take i plan) left reach
 
 -- a job of the plan is one of the table
 job_at : (t : Table) (plan : List ℕ) (i : ℕ) → over t plan ≡ true → i < length plan → get_or plan i 0 < t.jobs
@@ -36,8 +48,8 @@ unfolding over
 job_at t plan i o h = below_at t.jobs plan i o h
 
 -- two words without a bit hold no number
-none : (E G : ℕ → Type 0) (low high least : ℕ) → Reaches E G low high least → bit_or low high ≡ 0 → (e : ℕ) → E e → ⊥
-none E G low high least r z e k =
+none : (E G : ℕ → Type 0) (a : Reach) → Reaches E G a → bit_or a.low a.high ≡ 0 → (e : ℕ) → E e → ⊥
+none E G a r z e k =
     by_test (ltb e 64)
     (λ l. clear e (ltb-true e 64 l) (inl k))
     (λ l.
@@ -47,24 +59,25 @@ none E G low high least r z e k =
     clear : (n : ℕ) → n < 64 → E n ⊎ E (64 + n) → ⊥
     clear n h s =
         (holds_none n h).0
-        (ap (λ (w : ℕ). bit w n) (sym z) ∙ (holds_either low high E (λ i. E (64 + i)) r.low_holds r.high_holds n h).1 s)
+        (ap (λ (w : ℕ). bit w n) (sym z) ∙ (holds_either a.low a.high E (λ i. E (64 + i)) r.low_holds r.high_holds n h).1 s)
 
 module _ (cells plan : List ℕ) (left : ℕ) where
-  pub follow_begins : {a b c : ℕ} (x : ℕ) → x ≡ get_or plan 0 0 → 0 < length plan → InCell (129 * x + left) cells a b c → Following cells plan left a b c 1
+  pub follow_begins : (reach : Reach) (x : ℕ) → x ≡ get_or plan 0 0 → 0 < length plan → reach ≡ reach_in (129 * x + left) cells →
+      Following cells plan left reach 1
   unfolding cell_of
-  follow_begins {a} {b} {c} x e h i = record {
+  follow_begins reach x e h i = record {
     begun = omega arith;
     inside = omega arith;
     reached = λ t log known o.
         let one : take 1 plan ≡ x ∷ [] = take-suc plan 0 0 h ∙ ap (λ (y : ℕ). y ∷ []) (sym e) in
-        rw (one, i.low_is, i.high_is, i.least_is) (known.known x left (subst (λ (y : ℕ). y < t.jobs) (sym e) (job_at t plan 0 o h)) (omega arith));
+        rw (one, i) (known.known x left (subst (λ (y : ℕ). y < t.jobs) (sym e) (job_at t plan 0 o h)) (omega arith));
   }
 
-  module _ (low high least i : ℕ) (f : Following cells plan left low high least i) where
+  module _ (reach : Reach) (i : ℕ) (f : Following cells plan left reach i) where
     -- one job more
-    pub follow_more : {u v w : ℕ} (x : ℕ) → x ≡ get_or plan i 0 → i < length plan → JobMore cells x low high least u v w →
-        Following cells plan left u v w (i + 1)
-    follow_more {u} {v} {w} x e h m = record {
+    pub follow_more : (next : Reach) (x : ℕ) → x ≡ get_or plan i 0 → i < length plan → JobMore cells x reach next →
+        Following cells plan left next (i + 1)
+    follow_more next x e h m = record {
       begun = omega arith;
       inside = omega arith;
       reached = λ t log known o.
@@ -76,36 +89,36 @@ module _ (cells plan : List ℕ) (left : ℕ) where
     }
 
     -- all of it
-    pub follow_ends : length plan ≤ i → Follows cells plan left low high least
+    pub follow_ends : length plan ≤ i → Follows cells plan left reach
     follow_ends h = record {
-      reached = λ t log known o. subst (λ (p : List ℕ). PlanReaches t log p left low high least) (take_all i plan h) (f.reached t log known o);
+      reached = λ t log known o. subst (λ (p : List ℕ). PlanReaches t log p left reach) (take_all i plan h) (f.reached t log known o);
     }
 
     -- nowhere to go on
-    pub follow_stops : bit_or low high ≡ 0 → Follows cells plan left low high least
+    pub follow_stops : bit_or reach.low reach.high ≡ 0 → Follows cells plan left reach
     follow_stops z = record {
       reached = λ t log known o.
           let l = last left log in
           let r = f.reached t log known o in
           let whole : take i plan ++ drop i plan ≡ plan = take-append-drop i plan in
-          subst (λ (p : List ℕ). PlanReaches t log p left low high least) whole
+          subst (λ (p : List ℕ). PlanReaches t log p left reach) whole
           (reaches_as
           (λ e. (
-            (λ k. absurd (none _ _ low high least r z e k)),
-            (λ k. let (s, m, n) = ends_split t (take i plan) (drop i plan) l e k in absurd (none _ _ low high least r z s m)),
+            (λ k. absurd (none _ _ reach r z e k)),
+            (λ k. let (s, m, n) = ends_split t (take i plan) (drop i plan) l e k in absurd (none _ _ reach r z s m)),
           ))
           (λ e. (
             (λ k. gets_front t (take i plan) (drop i plan) l e k),
             (λ k.
-                ⊎_elim (λ g. g) (λ w. let (s, m, n) = w in absurd (none _ _ low high least r z s m)) (gets_split t (take i plan) (drop i plan) l e k)),
+                ⊎_elim (λ g. g) (λ w. let (s, m, n) = w in absurd (none _ _ reach r z s m)) (gets_split t (take i plan) (drop i plan) l e k)),
           ))
           r);
     }
 
 -- A ROW WITHOUT A JOB is through at once
-pub follow_none : (cells row : List ℕ) (left : ℕ) {a b c : ℕ} → length row ≡ 0 → Alone left a b c → Follows cells row left a b c
-follow_none cells (j ∷ row) left z r = absurd (omega arith)
-follow_none cells [] left z r = record {
+pub follow_none : (cells row : List ℕ) (left : ℕ) (reach : Reach) → length row ≡ 0 → Alone left reach → Follows cells row left reach
+follow_none cells (j ∷ row) left reach z r = absurd (omega arith)
+follow_none cells [] left reach z r = record {
   reached = λ t log known o.
       let l = last left log in
       let n : length l ≡ left = length_last left log known.inside in

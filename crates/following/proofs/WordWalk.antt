@@ -2,10 +2,9 @@
 use mathlib.Core.Path.{◌≡◌, sym, ap, ◌∙◌, subst}
 use mathlib.Core.List.{List, [], ◌∷◌}
 use mathlib.Core.Logic.{inl, inr, ⊎_elim, ⊎_map}
-use Prim.Native.Nat.{ℕ, suc, ◌+◌, ◌-◌, ◌/◌, ◌^◌, ◌≤◌, ◌<◌, min}
+use Prim.Native.Nat.{ℕ, suc, ◌+◌, ◌-◌, ◌/◌, ◌^◌, ◌≤◌, ◌<◌}
 use native.Mathlib.Omega.{arith}
 use native.Mathlib.Nat.{div-one, le_of_lt, le_of_eq, lt_of_le_of_lt}
-use lib.Bits.{bit_or}
 use lib.Count.{count_trailing_zeros}
 use lib.Dec.{ltb}
 use lib.ListN.{length}
@@ -15,7 +14,8 @@ use Rattle.bpa.specs.Plans.{Table}
 use Rattle.bpa.proofs.Basics.Cases.{by_test}
 use Rattle.replay.specs.Ends.{last, Ends, Gets}
 use Rattle.replay.proofs.EndsLaws.{length_last, ends_fewer}
-use Rattle.reach.specs.Cells.{low_at, high_at, least_at, InCell}
+use Rattle.reach.specs.Cells.{reach_in}
+use Rattle.reach.specs.declared.Reach.{Reach}
 use Rattle.bits.specs.Bits.{bit}
 use Rattle.bits.proofs.PlaceBits.{zero_bit}
 use Rattle.bits.proofs.TrailingBits.{bit_shifted, clear_below, set_above, set_within}
@@ -34,8 +34,8 @@ through_later t log (j ∷ p) d s h k e = omega (arith, ends_fewer t j p (last d
 
 module _ (t : Table) (log p : List ℕ) (d x : ℕ) where
   -- numbers at which the plan cannot be through add nothing
-  more_none : {a b c : ℕ} (m n : ℕ) → m ≤ n → ((s : ℕ) → m ≤ s → s < n → Ends t p (last d log) s → ⊥) →
-      OneMore t log p d x m a b c → OneMore t log p d x n a b c
+  more_none : {a : Reach} (m n : ℕ) → m ≤ n → ((s : ℕ) → m ≤ s → s < n → Ends t p (last d log) s → ⊥) →
+      OneMore t log p d x m a → OneMore t log p d x n a
   more_none m n h none =
       reaches_as
       (λ e. ((λ w. let (s, l, k, f) = w in (s, omega (arith, l), k, f)), (λ w. let (s, l, k, f) = w in (s, below s l k, k, f))))
@@ -48,10 +48,10 @@ module _ (t : Table) (log p : List ℕ) (d x : ℕ) where
       below s l k = by_test (ltb s m) (λ e. ltb-true s m e) (λ e. absurd (none s (ltb-false s m e) l k))
 
   -- a number at which it can adds what the job reaches from there
-  more_one : {a b c u v w : ℕ} (m : ℕ) (cells : List ℕ) → Ends t p (last d log) m →
+  more_one : {a c : Reach} (m : ℕ) (cells : List ℕ) → Ends t p (last d log) m →
       CellReaches (cell_of x m) cells (Ends t (x ∷ []) (last m log)) (Gets t (x ∷ []) (last m log)) →
-      Joins a b c (low_at (cell_of x m) cells) (high_at (cell_of x m) cells) (least_at (cell_of x m) cells) u v w →
-      OneMore t log p d x m a b c → OneMore t log p d x (suc m) u v w
+      Joins a (reach_in (cell_of x m) cells) c →
+      OneMore t log p d x m a → OneMore t log p d x (suc m) c
   more_one m cells k known joins r =
       reaches_as
       (λ e. (
@@ -72,16 +72,16 @@ module _ (t : Table) (log p : List ℕ) (d x : ℕ) where
       (reaches_joined r known joins)
 
 -- THE WALK: the bits that are left, and what was reached by those before
-pub record Walking (cells : List ℕ) (first word a b c low high least bits cell : ℕ) : Type 0 where
+pub record Walking (cells : List ℕ) (first word : ℕ) (start reach : Reach) (bits cell : ℕ) : Type 0 where
   pub begun : first ≤ cell
   pub within : cell ≤ first + 64
   pub left : bits ≡ word / 2 ^ (cell - first)
   pub reached : (t : Table) (log p : List ℕ) (d x m : ℕ) → KnownCells t log d cells → 0 < length p → x < t.jobs →
       first ≡ cell_of x m → HoldsWord word (λ k. Ends t p (last d log) (m + k)) →
-      OneMore t log p d x m a b c → OneMore t log p d x (m + (cell - first)) low high least
+      OneMore t log p d x m start → OneMore t log p d x (m + (cell - first)) reach
 
-module _ (cells : List ℕ) (first word a b c : ℕ) where
-  pub walk_begins : Walking cells first word a b c a b c word first
+module _ (cells : List ℕ) (first word : ℕ) (start : Reach) where
+  pub walk_begins : Walking cells first word start start word first
   walk_begins =
       let z : first - first ≡ 0 = omega arith in
       record {
@@ -91,7 +91,7 @@ module _ (cells : List ℕ) (first word a b c : ℕ) where
         reached = λ t log p d x m known some job is holds r. more_none t log p d x m (m + (first - first)) (omega arith) (λ s l k e. omega (arith, l, k)) r;
       }
 
-  module _ (low high least bits cell : ℕ) (w : Walking cells first word a b c low high least bits cell) (small : word < 18446744073709551616) where
+  module _ (reach : Reach) (bits cell : ℕ) (w : Walking cells first word start reach bits cell) (small : word < 18446744073709551616) where
     abbrev done : ℕ
     done = cell - first
 
@@ -112,7 +112,7 @@ module _ (cells : List ℕ) (first word a b c : ℕ) where
         omega (arith, one, z, bit_left i)
 
     -- nothing is left
-    pub walk_ends : bits ≡ 0 → WordMore cells first word a b c low high least
+    pub walk_ends : bits ≡ 0 → WordMore cells first word start reach
     walk_ends z = record {
       more = λ t log p d x m known some job is holds r.
           more_none t log p d x (m + done) (m + 64) (omega (arith, w.begun, w.within))
@@ -138,16 +138,16 @@ module _ (cells : List ℕ) (first word a b c : ℕ) where
       skip_within = omega (arith, set_within bits skip (64 - done) here bits_small, w.begun, w.within)
 
       -- one number more, with the cell of its job
-      one_more : {x y z u v k : ℕ} → InCell (cell + skip) cells x y z → Joins low high least x y z u v k →
+      one_more : (next : Reach) → Joins reach (reach_in (cell + skip) cells) next →
           (t : Table) (log p : List ℕ) (d j m : ℕ) → KnownCells t log d cells → 0 < length p → j < t.jobs →
           first ≡ cell_of j m → HoldsWord word (λ i. Ends t p (last d log) (m + i)) →
-          OneMore t log p d j m a b c → OneMore t log p d j (suc (m + (done + skip))) u v k
+          OneMore t log p d j m start → OneMore t log p d j (suc (m + (done + skip))) next
       unfolding cell_of
-      one_more {u = u} {v} {k} i joins t log p d j m known some job is holds r =
+      one_more next joins t log p d j m known some job is holds r =
           let n = m + (done + skip) in
           let ends : Ends t p (last d log) n = (holds (done + skip) skip_within).0 (sym (bit_left skip) ∙ here) in
           let at : cell + skip ≡ cell_of j n = omega (arith, is, w.begun) in
-          let gap : OneMore t log p d j n low high least =
+          let gap : OneMore t log p d j n reach =
           more_none t log p d j (m + done) n (omega arith)
           (λ s l h e.
           clear t log p d m (s - (m + done)) holds (omega (arith, l, h, skip_within))
@@ -155,13 +155,12 @@ module _ (cells : List ℕ) (first word a b c : ℕ) where
           (w.reached t log p d j m known some job is holds r) in
           more_one t log p d j n cells ends
           (known.known j n job (le_of_lt (through_later t log p d n known.inside some ends)))
-          (subst (λ (y : ℕ). Joins low high least (low_at y cells) (high_at y cells) (least_at y cells) u v k) at
-          (record { low_is = joins.low_is ∙ ap (bit_or low) i.low_is; high_is = joins.high_is ∙ ap (bit_or high) i.high_is; least_is = joins.least_is ∙ ap (min least) i.least_is }))
+          (subst (λ (y : ℕ). Joins reach (reach_in y cells) next) at joins)
           gap
 
-      pub walk_more : {x y z u v k : ℕ} → InCell (cell + skip) cells x y z → Joins low high least x y z u v k →
-          Walking cells first word a b c u v k (bits / 2 ^ skip / 2) (cell + skip + 1)
-      walk_more {u = u} {v} {k} i joins =
+      pub walk_more : (next : Reach) → Joins reach (reach_in (cell + skip) cells) next →
+          Walking cells first word start next (bits / 2 ^ skip / 2) (cell + skip + 1)
+      walk_more next joins =
           let e : done + skip + 1 ≡ cell + skip + 1 - first = omega (arith, w.begun) in
           record {
             begun = omega (arith, w.begun);
@@ -170,5 +169,5 @@ module _ (cells : List ℕ) (first word a b c : ℕ) where
                 ∙ ap (λ (n : ℕ). word / 2 ^ n) e;
             reached = λ t log p d x m known some job is holds r.
                 let n : suc (m + (done + skip)) ≡ m + (cell + skip + 1 - first) = omega (arith, w.begun) in
-                subst (λ (y : ℕ). OneMore t log p d x y u v k) n (one_more i joins t log p d x m known some job is holds r);
+                subst (λ (y : ℕ). OneMore t log p d x y next) n (one_more next joins t log p d x m known some job is holds r);
           }

@@ -20,6 +20,7 @@ use Rattle.growth.proofs.JobSets.{member_exactly, one_exactly}
 use Rattle.growth.proofs.RuleRows.{InFront, fronts_exactly}
 use Rattle.growth.proofs.ReachedExact.{Leads, itself, by_rule, Led, led_rule, led_job, reached_exactly, fronts_over}
 use Rattle.job_bits.specs.JobBits.{PlanBits, InPart, RuleSets}
+use Rattle.job_bits.specs.declared.JobSets.{JobSets}
 use Rattle.job_bits.proofs.BitsOfJobs.{jobs_as}
 use Rattle.closure.specs.Linked.{Linked, own, next, SmallRows}
 use Rattle.growing.specs.Growing.{SomeBack}
@@ -29,7 +30,13 @@ module _ (n : ℕ) (rs : List ℕ) (g : GoodList n rs) where
   abbrev t : Table
   t = table_of n rs
 
-  module _ (rows heads : List ℕ) (sets : RuleSets rs (rule_count rs) rows heads) where
+  module _ (job_sets : JobSets) (sets : RuleSets rs (rule_count rs) job_sets) where
+    abbrev rows : List ℕ
+    rows = job_sets.rows
+
+    abbrev heads : List ℕ
+    heads = job_sets.fronts
+
     pub rows_small : SmallRows rows
     rows_small j h = (sets.rows_hold j h).small
 

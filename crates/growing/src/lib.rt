@@ -1,7 +1,7 @@
 // How many jobs a plan can reach, and whether it is endless.
 #![tactic(auto)]
 
-ghost use Rattle.std.specs.Prelude.{◌≡◌, true, ◌↔◌, ◌<◌, get_or};
+ghost use Rattle.std.specs.Prelude.{◌≡◌, true, ◌↔◌, ◌<◌, IsTrue, get_or};
 ghost use Rattle.bpa.specs.Plans.{all_below};
 ghost use Rattle.rules.specs.Places.{table_of};
 ghost use Rattle.rules.specs.Lists.{GoodList};
@@ -10,51 +10,36 @@ ghost use Rattle.growth.specs.Reached as meaning;
 ghost use Rattle.growing.specs.Growing.{SomeBack};
 
 use closure::closure;
+use job_bits::{JobSets, job_sets, plan_bits};
+use rules::Rules;
 
 // Whether a job can be reached from the jobs in its rows that others stand behind.
-fn comes_back(rows: &[u32; 24], fronts: &[u32; 24], job: u32) -> bool
-    requires small_rows { SmallRows rows.now }
-    requires small_rows_2 { SmallRows fronts.now }
-    requires job_bound { job < 24 }
-    ensures { (result ≡ true) ↔ Linked rows.now (get_or fronts.now job 0) job }
+fn comes_back(sets: &JobSets, job: u32) -> bool
+    requires small_rows { SmallRows sets.now.rows }
+    requires small_fronts { SmallRows sets.now.fronts }
+    requires is_job { job < 24 }
+    ensures { IsTrue result ↔ Linked sets.now.rows (get_or sets.now.fronts job 0) job }
 {
-    let back = closure(rows, fronts[job as usize]);
+    let back = closure(&sets.rows, sets.fronts[job as usize]);
     (back >> job) % 2 == 1
 }
 
 // Whether some job that is reached can.
-fn grows(rows: &[u32; 24], fronts: &[u32; 24], reached: u32) -> bool
-    requires small_rows { SmallRows rows.now }
-    requires small_rows_2 { SmallRows fronts.now }
-    requires reached_bound { reached < 16777216 }
-    ensures { (result ≡ true) ↔ SomeBack rows.now fronts.now reached }
+fn grows(sets: &JobSets, reached: u32) -> bool
+    requires small_rows { SmallRows sets.now.rows }
+    requires small_fronts { SmallRows sets.now.fronts }
+    requires small { reached < 16777216 }
+    ensures { IsTrue result ↔ SomeBack sets.now.rows sets.now.fronts reached }
 {
-    let mut job: u32 = 0;
-    while job < 24 {
-        let at = job;
-        job += 1;
-        if (reached >> at) % 2 == 1 {
-            if comes_back(rows, fronts, at) {
-                return true;
-            }
-        }
-    }
-    false
+    (0..24).any(|job: u32| (reached >> job) % 2 == 1 && comes_back(sets, job))
 }
 
 // Twice the number of jobs that a plan can reach, and one more if it is endless.
-pub fn growth(jobs: usize, rules: &[u8], plan: &[u8]) -> u8
-    requires good_list { GoodList jobs rules.now }
-    requires plan_value { all_below jobs plan.now ≡ true }
-    ensures { result ≡ meaning.growth (table_of jobs rules.now) plan.now }
+pub fn growth_of(rules: &Rules, plan: &[u8]) -> u8
+    requires { all_below rules.now.jobs plan.now ≡ true }
+    ensures { result ≡ meaning.growth (table_of rules.now.jobs rules.now.bytes.now) plan.now }
 {
-    let sets = job_bits::job_sets(jobs, rules);
-    let rows = sets.rows;
-    let fronts = sets.fronts;
-    let reached = closure(&rows, job_bits::plan_bits(plan));
-    let twice = 2 * u32::count_ones(reached) as u8;
-    if grows(&rows, &fronts, reached) {
-        return twice + 1;
-    }
-    twice
+    let sets = job_sets(rules);
+    let reached = closure(&sets.rows, plan_bits(plan));
+    2 * reached.count_ones() as u8 + u8::from(grows(&sets, reached))
 }

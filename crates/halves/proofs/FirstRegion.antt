@@ -14,8 +14,9 @@ use Rattle.bpa.proofs.Basics.Plans.{norm_positive}
 use Rattle.rules.specs.Places.{table_of}
 use Rattle.rows.specs.Region.{row}
 use Rattle.rows.proofs.OneRow.{row_new, row_old}
-use Rattle.facts.specs.Facts.{norms_in, order_in, jobs_in, table_by, Tables}
-use Rattle.facts.proofs.Lookups.{jobs_few, place_job, place_rises, place_of_job}
+use Rattle.facts.specs.Columns.{norms_in, order_in, jobs_in, table_by}
+use Rattle.facts.specs.declared.Facts.{Facts}
+use Rattle.facts.proofs.TableFacts.{tables, jobs_few, place_job, place_rises, place_of_job}
 use Rattle.halves.specs.HalvesWritten.{FirstIn}
 use Rattle.halves.proofs.Lengths.{length_set_each}
 
@@ -69,31 +70,31 @@ module _ (ns : List ℕ) (first : ℕ) where
             (eq-or-lt_of_le (omega arith));
       }
 
-module _ (rs sums next facts : List ℕ) (t : Tables rs sums next facts) where
+module _ (facts : Facts) where
   -- the first job in order
   pub first_job : get_or (order_in facts) 0 0 < jobs_in facts
-  first_job = place_job rs sums next facts t 0 (omega (arith, t.list.job))
+  first_job = place_job facts 0 (omega (arith, (tables facts).list.job))
 
   pub norm_some : (j : ℕ) → j < jobs_in facts → 1 ≤ get_or (norms_in facts) j 0
-  unfolding table_by table_of
-  norm_some j h = norm_positive (table_by facts rs) (norms_in facts) t.good j h
+  unfolding table_of
+  norm_some j h = norm_positive (table_by facts) (norms_in facts) (tables facts).good j h
 
   first_least : (j : ℕ) → j < jobs_in facts →
       (j ≡ get_or (order_in facts) 0 0) ⊎ (precedes (norms_in facts) (get_or (order_in facts) 0 0) j ≡ true)
   first_least j h =
-      let (i, l, e) = place_of_job rs sums next facts t j h in
+      let (i, l, e) = place_of_job facts j h in
       ⊎_elim (λ (q : 0 ≡ i). inl (sym e ∙ ap (λ (k : ℕ). get_or (order_in facts) k 0) (sym q)))
       (λ (q : 0 < i).
       inr
       (subst (λ (k : ℕ). precedes (norms_in facts) (get_or (order_in facts) 0 0) k ≡ true) e
-      (place_rises rs sums next facts t 0 i q l)))
+      (place_rises facts 0 i q l)))
       (eq-or-lt_of_le (omega arith))
 
   pub filling_last : (lens region : List ℕ) (j : ℕ) → j ≡ jobs_in facts →
-      Filling (norms_in facts) (get_or (order_in facts) 0 0) lens region j → FirstIn rs facts lens region
-  unfolding table_by table_of
+      Filling (norms_in facts) (get_or (order_in facts) 0 0) lens region j → FirstIn facts lens region
+  unfolding table_of
   filling_last lens region j e f =
-      let few : jobs_in facts ≤ 24 = jobs_few rs sums next facts t in
+      let few : jobs_in facts ≤ 24 = jobs_few facts in
       record {
         within = record {
           few = few;

@@ -1,6 +1,4 @@
--- Laws of rows in the two halves of an area.
+-- Laws of rows that are written anew.
 pub mod Lengths
 pub mod FirstRegion
-pub mod Halves
-pub mod CopiedRow
 pub mod KeptRows

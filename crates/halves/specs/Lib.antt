@@ -1,2 +1,2 @@
--- Rows in the two halves of an area.
+-- The first rows, and new rows that become the old ones.
 pub mod HalvesWritten

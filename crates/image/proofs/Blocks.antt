@@ -1,13 +1,14 @@
 -- Checks over all blocks, the parts of an image that are its blocks, and what check 4 says of one. Assumes nothing.
-use mathlib.Core.Path.{◌≡◌, refl, sym, ◌∙◌, subst}
+use mathlib.Core.Path.{◌≡◌, refl, sym, ap, ◌∙◌, subst}
 use mathlib.Core.Bool.{Bool, true, false, ◌&&◌, true≢false}
-use mathlib.Core.List.{List, ◌++◌}
+use mathlib.Core.List.{List, [], ◌++◌}
 use Prim.Native.Nat.{ℕ, zero, suc, ◌+◌, ◌*◌, ◌-◌, ◌≤◌, ◌<◌}
 use native.Mathlib.Omega.{arith}
 use native.Mathlib.Decide.{ℕ_discrete}
 use lib.Dec.{leb, eqb}
 use lib.ListN.{length, get_or, take, drop, length-take, length-drop, take-append-drop}
 use lib.Seq.{drop-drop}
+use Rattle.std.specs.Simd.{first_chunks}
 use borrow.Author.Tests.{leb-true, eqb-true, eqb-false, le-leb, eq-eqb, ne_eqb}
 use Rattle.area.specs.Numbers.{number_at}
 use Rattle.image.specs.Image.{block, blocks_in, rules_in_block, each_block, head_good, block_good, rules_fit, head_of, places_of_block}
@@ -50,6 +51,19 @@ unfolding block
 block_cons bs k =
     let next : 512 * suc k ≡ 512 * k + 512 = omega arith in
     rw (next, ← drop-drop 512 (512 * k) bs) (take-append-drop 512 (drop (512 * k) bs))
+
+-- the blocks of an image as arrays: the one at place k is block k
+pub length_chunks : (n : ℕ) (bs : List ℕ) → length (first_chunks 512 n bs) ≡ n
+length_chunks zero bs = refl
+length_chunks (suc n) bs = ap (λ (j : ℕ). suc j) (length_chunks n (drop 512 bs))
+
+pub chunk_at : (bs : List ℕ) (n k : ℕ) → k < n → get_or (first_chunks 512 n bs) k [] ≡ block k bs
+unfolding block
+chunk_at bs zero k h = absurd (omega arith)
+chunk_at bs (suc n) zero h = refl
+chunk_at bs (suc n) (suc k) h =
+    let next : 512 * suc k ≡ 512 + 512 * k = omega arith in
+    chunk_at (drop 512 bs) n k (omega arith) ∙ rw (next, drop-drop (512 * k) 512 bs)
 
 -- what check 4 says of a block
 pub record Head (jobs blocks k : ℕ) (block : List ℕ) : Type 0 where

@@ -14,3 +14,4 @@ pub mod WrittenBlocks
 pub mod TableBack
 pub mod ByteRows
 pub mod TableBytes
+pub mod ByteSums

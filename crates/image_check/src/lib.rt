@@ -1,108 +1,80 @@
 // The checks of an image and of a list of 8-byte rules: refusals 2 to 5.
 #![tactic(auto)]
 
-ghost use Rattle.std.specs.Prelude.{◌≡◌, true, ◌*◌, ◌≤◌, ◌<◌, eqb, length};
+ghost use Rattle.std.specs.Prelude.{◌≡◌, ◌↔◌, true, IsTrue, ◌≤◌, All};
 ghost use Rattle.area.specs.Numbers.{number_at};
-ghost use Rattle.image.specs.Image.{checksum, head_good, each_block, layout_refusal};
+ghost use Rattle.answer.specs.Refusals.{refusal_of};
+ghost use Rattle.image.specs.Image.{checksum, rules_in_block, places_of_block, layout_refusal};
+ghost use Rattle.image.specs.Checks.{HeadsPass};
 ghost use Rattle.image.specs.Writing.{list_refusal};
-ghost use Rattle.image.specs.Checks.{block_check};
 
-// Check 3: the checksum.
-fn sum_good(block: &[u8]) -> bool
-    requires { length block.now ≡ 512 }
-    ensures { result ≡ eqb (number_at 510 block.now) (checksum block.now) }
+use answer::Refusal;
+use image::{BLOCK, RULES};
+
+// Check 3 of every block: the checksum.
+fn sums_good(blocks: &[[u8; BLOCK]]) -> bool
+    ensures { IsTrue result ↔ All (λ block. number_at 510 block ≡ checksum block) blocks.now }
 {
-    let sum = image::checksum(block);
-    let stored = area::number_at(510, block);
-    stored == sum
+    blocks.iter().all(|block| area::number_at(510, block) == image::checksum(block))
 }
 
-// One check of one block; check 5 comes after check 4.
-fn block_passes(check: u32, image: &[u8], count: usize, k: usize) -> bool
-    requires k_lt_count { (k < count) × ((length image.now ≡ 512 * count) × (count ≤ 4)) }
-    requires k_value { 4 < check → head_good image.now k ≡ true }
-    ensures { result ≡ block_check check image.now k }
+// Check 4 of every block.
+fn heads_good(jobs: usize, blocks: &[[u8; BLOCK]]) -> bool
+    ensures { IsTrue result ↔ HeadsPass jobs blocks.now }
 {
-    let a = 512 * k;
-    let e = a + 512;
-    if check <= 3 {
-        return sum_good(&image[a..e]);
-    }
-    let jobs = area::wide(image[0]);
-    if check <= 4 {
-        return head_check::head_good(jobs, count, k, &image[a..e]);
-    }
-    place_check::block_good(jobs, &image[a..e])
+    let count = blocks.len();
+    blocks
+        .iter()
+        .enumerate()
+        .all(|(k, block)| head_check::head_good(jobs, count, k, block))
 }
 
-// One check of every block.
-fn blocks_pass(check: u32, image: &[u8], count: usize) -> bool
-    requires image_len { (length image.now ≡ 512 * count) × (count ≤ 4) }
-    requires count_value { 4 < check → each_block (head_good image.now) count 0 ≡ true }
-    ensures { result ≡ each_block (block_check check image.now) count 0 }
+// Check 5 of every block.
+fn places_good(jobs: usize, blocks: &[[u8; BLOCK]]) -> bool
+    requires { All (λ block. rules_in_block block ≤ 63) blocks.now }
+    ensures { IsTrue result ↔ All (λ block. places_of_block jobs block ≡ true) blocks.now }
 {
-    let mut k: usize = 0;
-    while k < count {
-        if block_passes(check, image, count, k) {
-            k += 1;
-        } else {
-            return false;
-        }
-    }
-    true
+    blocks
+        .iter()
+        .all(|block| place_check::block_good(jobs, block))
 }
 
-// REFUSALS 2 TO 5 of an image, 0 where there is none: each check is made over all blocks before the next.
-pub fn layout_refusal(image: &[u8]) -> u8
-    ensures { result ≡ layout_refusal image.now }
+// REFUSALS 2 TO 5 of an image: each check is made over all blocks before the next.
+#[tactic(auto, unfolding(answer::specs::Refusals::refusal_of, answer::specs::Refusals::number, image::specs::Image::layout_refusal, image::specs::Image::length_good, image::specs::Image::blocks_in,))]
+pub fn check_layout(image: &[u8]) -> Result<(), Refusal>
+    ensures { refusal_of result ≡ layout_refusal image.now }
 {
-    let count = image.len() / 512;
-    if image.len() % 512 != 0 {
-        return 2;
+    let (blocks, rest) = image.as_chunks::<BLOCK>();
+    if !rest.is_empty() || blocks.is_empty() || 4 < blocks.len() {
+        return Err(Refusal::BadLength);
     }
-    if count < 1 {
-        return 2;
+    if !sums_good(blocks) {
+        return Err(Refusal::BadChecksum);
     }
-    if 4 < count {
-        return 2;
+    let jobs = usize::from(image[0]);
+    if !heads_good(jobs, blocks) {
+        return Err(Refusal::BadHeader);
     }
-    if blocks_pass(3, image, count) {} else {
-        return 3;
+    if !places_good(jobs, blocks) {
+        return Err(Refusal::BadPlace);
     }
-    if blocks_pass(4, image, count) {} else {
-        return 4;
-    }
-    if blocks_pass(5, image, count) {
-        return 0;
-    }
-    5
+    Ok(())
 }
 
-// The most rules of a list.
-const RULES: usize = 252;
-
-// REFUSALS 2, 4 AND 5 of a job count and a list of 8-byte rules, 0 where there is none.
-pub fn list_refusal(jobs: u32, rules: &[u8]) -> u8
-    ensures { result ≡ list_refusal jobs rules.now }
+// REFUSALS 2, 4 AND 5 of a job count and a list of 8-byte rules.
+#[tactic(auto, unfolding(answer::specs::Refusals::refusal_of, answer::specs::Refusals::number, image::specs::Writing::list_refusal, rules::specs::Places::rule_count,))]
+pub fn check_list(jobs: u32, rules: &[u8]) -> Result<(), Refusal>
+    ensures { refusal_of result ≡ list_refusal jobs rules.now }
 {
-    let count = rules.len() / 8;
-    if rules.len() % 8 != 0 {
-        return 2;
+    let (places, rest) = rules.as_chunks::<8>();
+    if !rest.is_empty() || places.is_empty() || RULES < places.len() {
+        return Err(Refusal::BadLength);
     }
-    if count < 1 {
-        return 2;
+    if !(1..=24).contains(&jobs) {
+        return Err(Refusal::BadHeader);
     }
-    if RULES < count {
-        return 2;
+    if !place_check::places_good(jobs as usize, rules) {
+        return Err(Refusal::BadPlace);
     }
-    if jobs < 1 {
-        return 4;
-    }
-    if 24 < jobs {
-        return 4;
-    }
-    if place_check::places_good(jobs as usize, count, rules) {
-        return 0;
-    }
-    5
+    Ok(())
 }

@@ -1,2 +1,3 @@
 -- Laws of the writer.
 pub mod FilledBlock
+pub mod WrittenSoFar

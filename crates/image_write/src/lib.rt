@@ -1,10 +1,12 @@
 // The writer of images: each block is filled in its own part of the output.
 #![tactic(auto)]
 
-ghost use Rattle.std.specs.Prelude.{◌≡◌, ◌+◌, ◌≤◌, ◌<◌, min, length};
+ghost use Rattle.std.specs.Prelude.{◌≡◌, ◌≤◌, length};
 ghost use Rattle.area.specs.Areas.{IsPut};
 ghost use Rattle.image.specs.Writing.{written, list_refusal};
 ghost use Rattle.image.specs.Filling.{Fills, filled};
+
+use image::{BLOCK, BLOCK_RULES};
 
 // FILLS BLOCK k, whatever it held: counts, rules, zeros, numbers, checksum.
 fn fill_block(jobs: usize, k: usize, blocks: usize, rules: &[u8], block: &mut [u8])
@@ -21,31 +23,19 @@ fn fill_block(jobs: usize, k: usize, blocks: usize, rules: &[u8], block: &mut [u
     area::put_number(sum, 510, block);
 }
 
-fn least(a: usize, b: usize) -> usize
-    ensures { result ≡ min a b }
-{
-    if a <= b {
-        return a;
-    }
-    b
-}
-
 // WRITES THE IMAGE of a job count and a list of rules, and says how many bytes it has.
 pub fn write_blocks(jobs: u32, rules: &[u8], out: &mut [u8]) -> usize
     requires rules_value { list_refusal jobs rules.now ≡ 0 }
     requires rules_in_bounds { length (written jobs rules.now) ≤ length out.old }
     ensures { IsPut 0 (written jobs rules.now) out.old result out.new }
 {
-    let blocks = (rules.len() / 8 + 62) / 63;
-    let mut rest = blocks;
-    while 0 < rest {
-        let k = blocks - rest;
-        rest -= 1;
-        let a = 512 * k;
-        let e = a + 512;
-        let from = 504 * k;
-        let to = least(from + 504, rules.len());
+    let blocks = (rules.len() / 8).div_ceil(BLOCK_RULES);
+    for k in 0..blocks {
+        let a = BLOCK * k;
+        let e = a + BLOCK;
+        let from = 8 * BLOCK_RULES * k;
+        let to = (from + 8 * BLOCK_RULES).min(rules.len());
         fill_block(jobs as usize, k, blocks, &rules[from..to], &mut out[a..e]);
     }
-    512 * blocks
+    BLOCK * blocks
 }

@@ -4,14 +4,15 @@ use mathlib.Core.Bool.{true}
 use mathlib.Core.List.Memᴰ
 use mathlib.Core.List.{List, [], ◌∷◌, ◌++◌, Memᴰ}
 use mathlib.Core.Logic.{◌↔◌, ◌⊎◌, inl, inr, ⊎_elim}
-use Prim.Native.Nat.{ℕ, zero, suc, ◌^◌, ◌≤◌, ◌<◌}
+use Prim.Native.Nat.{ℕ, suc, ◌^◌, ◌<◌}
 use native.Mathlib.Decide.{ℕ_discrete}
 use native.Mathlib.Omega.{arith}
 use lib.Bits.{bit_or, or_lt}
 use lib.Dec.{ltb, lit<}
 use lib.ListN.{length, get_or, take, set, replicate, get_or-replicate}
 use lib.Pow.{pow-lt}
-use lib.Seq.{take-suc, take_all, get_or-set_same, get_or-set_other}
+use lib.Seq.{take-suc, get_or-set_same, get_or-set_other}
+use borrow.Author.Tests.{ltb-true}
 use Rattle.bpa.specs.Plans.{all_below}
 use Rattle.bpa.proofs.Basics.Cases.{and_left, and_right, and_both}
 use Rattle.bits.specs.Bits.{JobBits}
@@ -53,36 +54,39 @@ plan_more p i b h s f =
     subst (λ (q : List ℕ). PlanBits q (bit_or b (2 ^ get_or p i 0))) (sym (take-suc p i 0 h))
     (jobs_as (behind (take i p) (get_or p i 0)) (jobs_joined f (one_job (get_or p i 0) s)))
 
-pub plan_all : (p : List ℕ) (i b : ℕ) → length p ≤ i → PlanBits (take i p) b → PlanBits p b
-plan_all p i b h f = subst (λ (q : List ℕ). PlanBits q b) (take_all i p h) f
-
--- A ROW
-pub below_front : (n : ℕ) (w : List ℕ) → all_below 24 w ≡ true → all_below 24 (take n w) ≡ true
+-- A ROW without a job, and one with a last job
+below_parts : (w : List ℕ) (last : ℕ) → all_below 24 (w ++ (last ∷ [])) ≡ true → (all_below 24 w ≡ true) × (last < 24)
 unfolding all_below
-below_front zero w h = refl
-below_front (suc n) [] h = refl
-below_front (suc n) (j ∷ w) h =
-    and_both (ltb j 24) (all_below 24 (take n w)) (and_left (ltb j 24) (all_below 24 w) h) (below_front n w (and_right (ltb j 24) (all_below 24 w) h))
+below_parts [] last h = (refl, ltb-true last 24 (and_left (ltb last 24) true h))
+below_parts (j ∷ w) last h =
+    let rest = below_parts w last (and_right (ltb j 24) (all_below 24 (w ++ (last ∷ []))) h) in
+    (and_both (ltb j 24) (all_below 24 w) (and_left (ltb j 24) (all_below 24 (w ++ (last ∷ []))) h) rest.0, rest.1)
 
-pub row_none : (w : List ℕ) → length w ≡ 0 → TwoSets w 0 0
+pub before_below : (row w : List ℕ) (last : ℕ) → row ≡ w ++ (last ∷ []) → all_below 24 row ≡ true → all_below 24 w ≡ true
+before_below row w last e h = (below_parts w last (rw e at h)).0
+
+pub last_below : (row w : List ℕ) (last : ℕ) → row ≡ w ++ (last ∷ []) → all_below 24 row ≡ true → last < 24
+last_below row w last e h = (below_parts w last (rw e at h)).1
+
+pub row_none : (w : List ℕ) → length w ≡ 0 → TwoSets w (record { all = 0; front = 0 })
 unfolding all_but_last
 row_none [] e = record { all_hold = plan_none []; front_hold = plan_none [] }
 row_none (j ∷ w) e = absurd (omega (arith, e))
 
-before_last : (w : List ℕ) (n : ℕ) → length w ≡ suc n → all_but_last w ≡ take n w
+before_last : (w : List ℕ) (last : ℕ) → all_but_last (w ++ (last ∷ [])) ≡ w
 unfolding all_but_last
-before_last [] n e = absurd (omega (arith, e))
-before_last (i ∷ []) zero e = refl
-before_last (i ∷ []) (suc n) e = absurd (omega (arith, e))
-before_last (i ∷ j ∷ w) zero e = absurd (omega (arith, e))
-before_last (i ∷ j ∷ w) (suc n) e = ap (λ (l : List ℕ). i ∷ l) (before_last (j ∷ w) n (omega (arith, e)))
+before_last [] last = refl
+before_last (i ∷ []) last = refl
+before_last (i ∷ j ∷ w) last = ap (λ (l : List ℕ). i ∷ l) (before_last (j ∷ w) last)
 
-pub row_last : (w : List ℕ) (n f : ℕ) → length w ≡ suc n → get_or w n 0 < 24 → PlanBits (take n w) f →
-    TwoSets w (bit_or f (2 ^ get_or w n 0)) f
-row_last w n f e s h = record {
-  all_hold = plan_all w (suc n) (bit_or f (2 ^ get_or w n 0)) (omega (arith, e)) (plan_more w n f (omega (arith, e)) s h);
-  front_hold = subst (λ (l : List ℕ). PlanBits l f) (sym (before_last w n e)) h;
-}
+pub row_last : (row w : List ℕ) (last f : ℕ) → row ≡ w ++ (last ∷ []) → last < 24 → PlanBits w f →
+    TwoSets row (record { all = bit_or f (2 ^ last); front = f })
+row_last row w last f e s h =
+    rw e
+    (record {
+      all_hold = jobs_as (behind w last) (jobs_joined h (one_job last s));
+      front_hold = rw (before_last w last) h;
+    })
 
 -- THE ROWS OF EACH JOB, in one of the two parts
 module _ (part : List ℕ → List ℕ) (rs : List ℕ) where

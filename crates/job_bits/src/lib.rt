@@ -4,19 +4,19 @@
 ghost use Rattle.std.specs.Prelude.{◌≡◌, true};
 ghost use Rattle.bpa.specs.Plans.{all_below};
 ghost use Rattle.rules.specs.Places.{rule_count};
-ghost use Rattle.rules.specs.Lists.{GoodList};
 ghost use Rattle.job_bits.specs.JobBits.{PlanBits, TwoSets, RuleSets};
 
-use rules::{rule_after, rule_job};
+use rules::Rules;
 
 // The jobs of a row, and those of them that others stand behind.
-#[derive(Drop)]
+#[derive(Clone, Copy)]
 struct RowSets {
     all: u32,
     front: u32,
 }
 
-// For each job the jobs in its rows, and those of them that others stand behind.
+// For each job the jobs in its rows, and those of them that others stand behind. Two arrays, since what is reached goes along the rows alone
+// (`closure`, `Linked`): in one array of pairs that loop and its theorems would be no plainer.
 #[derive(Drop)]
 pub struct JobSets {
     pub rows: [u32; 24],
@@ -29,11 +29,8 @@ pub fn plan_bits(plan: &[u8]) -> u32
     ensures { PlanBits plan.now result }
 {
     let mut bits: u32 = 0;
-    let mut i = 0;
-    while i < plan.len() {
-        let job = plan[i] as u32;
-        i += 1;
-        bits = bits | (1u32 << job);
+    for &job in plan {
+        bits |= 1 << job;
     }
     bits
 }
@@ -41,38 +38,31 @@ pub fn plan_bits(plan: &[u8]) -> u32
 // The last job of a row has none behind it.
 fn row_sets(row: &[u8]) -> RowSets
     requires { all_below 24 row.now ≡ true }
-    ensures { TwoSets row.now result.all result.front }
+    ensures { TwoSets row.now result }
 {
-    if row.len() == 0 {
+    let Some((&last, before)) = row.split_last() else {
         return RowSets { all: 0, front: 0 };
-    }
-    let last = row.len() - 1;
-    let front = plan_bits(&row[..last]);
-    let job = row[last] as u32;
+    };
+    let front = plan_bits(before);
     RowSets {
-        all: front | (1u32 << job),
-        front: front,
+        all: front | (1 << last),
+        front,
     }
 }
 
 // One pass over the rules.
-pub fn job_sets(jobs: usize, rules: &[u8]) -> JobSets
-    requires { GoodList jobs rules.now }
-    ensures { RuleSets rules.now (rule_count rules.now) result.rows result.fronts }
+pub fn job_sets(rules: &Rules) -> JobSets
+    ensures { RuleSets rules.now.bytes.now (rule_count rules.now.bytes.now) result }
 {
-    let mut rows = [0u32; 24];
-    let mut fronts = [0u32; 24];
-    let total = rules::rule_total(rules);
-    let mut i = 0;
-    while i < total {
-        let job = rule_job(rules, i);
-        let sets = row_sets(rule_after(rules, i));
-        i += 1;
-        rows[job] = rows[job] | sets.all;
-        fronts[job] = fronts[job] | sets.front;
+    let mut sets = JobSets {
+        rows: [0; 24],
+        fronts: [0; 24],
+    };
+    for i in 0..rules.count() {
+        let job = rules.job(i);
+        let row = row_sets(rules.after(i));
+        sets.rows[job] |= row.all;
+        sets.fronts[job] |= row.front;
     }
-    JobSets {
-        rows: rows,
-        fronts: fronts,
-    }
+    sets
 }

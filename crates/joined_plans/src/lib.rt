@@ -1,43 +1,47 @@
 // A plan over each of two joined tables: their refusals, and whether they are the same.
 #![tactic(auto)]
 
-ghost use Rattle.std.specs.Prelude.{◌≡◌, true, ◌+◌, ◌≤◌, length};
+ghost use Rattle.std.specs.Prelude.{◌≡◌, true, ◌-◌, ◌≤◌, length};
+ghost use Rattle.answer.specs.Refusals.{or_else, refusal_of};
 ghost use Rattle.bpa.specs.Plans.{all_below};
 ghost use Rattle.bpa.specs.Norms.{sum_of};
 ghost use Rattle.bpa.specs.Method as method;
 ghost use Rattle.rules.specs.Places.{table_of};
-ghost use Rattle.norm.specs.NormArrays.{GoodNorms};
+ghost use Rattle.refusal.specs.Refusals.{jobs_refusal, sum_refusal};
 ghost use Rattle.joined.specs.Joined.{renumbered};
-ghost use Rattle.joined_plans.specs.PlansOfTwo.{eight_first};
 
-// The refusal of two plans, by that of each over its own table: 8 of either before 9 of either.
-pub fn plans_refusal(left: u8, right: u8) -> u8
-    ensures { result ≡ eight_first left right }
-{
-    if right == 8 {
-        return 8;
-    }
-    answer::or_else(left, right)
-}
+use answer::Refusal;
+use norm::Normed;
+use refusal::{check_jobs, check_norm};
 
-// Whether a plan of the first of two joined tables and a plan of the second are the same.
-pub fn same_joined(
-    jobs: usize,
-    others: usize,
-    rules: &[u8],
-    norms: &[u16; 24],
+// Refusals 8 and 9 of two plans, each over its own table: 8 of either before 9 of either.
+pub fn check_plans(
+    first: &Normed,
+    second: &Normed,
     left: &[u8],
     right: &[u8],
-    area: &mut [u8],
-) -> bool
-    requires good_norms { GoodNorms (jobs + others) rules.now norms.now }
-    requires left_value { (all_below jobs left.now ≡ true) × (all_below others right.now ≡ true) }
-    requires right_len_bound { (length right.now ≤ 4096) × (sum_of norms.now (renumbered jobs right.now) ≤ 4096) }
-    requires area_len { length area.old ≡ 24576 }
-    ensures { result ≡ method.same (table_of (jobs + others) rules.now) left.now (renumbered jobs right.now) }
+) -> Result<(), Refusal>
+    ensures { refusal_of result ≡ or_else (jobs_refusal first.now.jobs left.now)
+        (or_else (jobs_refusal second.now.jobs right.now)
+        (or_else (sum_refusal first.now.norms.now left.now) (sum_refusal second.now.norms.now right.now))) }
 {
-    let mut plan = [0u8; 4096];
-    joining::renumber_plan(right, jobs as u8, &mut plan);
-    let len = right.len();
-    engine::same(jobs + others, rules, norms, left, &plan[0..len], area)
+    check_jobs(first, left)?;
+    check_jobs(second, right)?;
+    check_norm(first, left)?;
+    check_norm(second, right)
+}
+
+// Whether a plan of the first of two joined tables, which has so many jobs, and a plan of the second are the same. The right plan is numbered on behind
+// what the engine works in: on the stack there is no room for it beside two tables.
+pub fn are_same(table: &Normed, jobs: usize, left: &[u8], right: &[u8], area: &mut [u8]) -> bool
+    requires left_value { all_below jobs left.now ≡ true }
+    requires jobs_within { jobs ≤ table.now.jobs }
+    requires right_value { all_below (table.now.jobs - jobs) right.now ≡ true }
+    requires right_len_bound { (length right.now ≤ 4096) × (sum_of table.now.norms.now (renumbered jobs right.now) ≤ 4096) }
+    requires area_len { length area.old ≡ 28672 }
+    ensures { result ≡ method.same (table_of table.now.jobs table.now.rules.now) left.now (renumbered jobs right.now) }
+{
+    let (area, plan) = area.split_at_mut(24576);
+    joining::renumber_plan(right, jobs as u8, plan);
+    engine::are_same(table, left, &plan[..right.len()], area)
 }

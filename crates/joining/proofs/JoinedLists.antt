@@ -118,6 +118,15 @@ module _ (n : ℕ) (ns ms all : List ℕ) (j : JoinsNorms ns n ms all) where
   beyond : (i : ℕ) → 24 ≤ i → get_or all i 0 ≡ 0
   beyond i h = get_or-eq_default all 0 {n = i} (omega (arith, j.size))
 
+  -- none is 0 if none is of either
+  pub joined_finite : (m : ℕ) → n + m ≤ 24 → ((i : ℕ) → i < n → 0 < get_or ns i 0) → ((i : ℕ) → i < m → 0 < get_or ms i 0) →
+      (i : ℕ) → i < n + m → 0 < get_or all i 0
+  joined_finite m few f g i h = by_side (dec_lt i n)
+    where
+      by_side : Dec (i < n) → 0 < get_or all i 0
+      by_side (yes l) = omega (arith, left i l (omega arith), f i l)
+      by_side (no l) = omega (arith, right i (omega arith) (omega arith), g (i - n) (omega arith))
+
   -- a plan of the second table, renumbered, by its own norms
   pub sum_joined : (m : ℕ) → n + m ≤ 24 → (q : List ℕ) → all_below m q ≡ true → sum_of all (renumbered n q) ≡ sum_of ms q
   unfolding sum_of renumbered all_below

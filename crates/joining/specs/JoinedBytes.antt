@@ -1,6 +1,5 @@
 -- A second table joined to a first, as bytes, and refusal 15. Assumes nothing: these are definitions.
 use Rattle.std.specs.Prelude.{◌≡◌, true, ◌||◌, cond, List, [], ◌∷◌, ℕ, ◌+◌, ◌*◌, ◌-◌, ◌≤◌, ◌<◌, ltb, length, get_or}
-use Rattle.area.specs.Areas.{put}
 use Rattle.bpa.specs.Plans.{Table}
 use Rattle.rules.specs.Places.{place_good, places_good, changed_places, rule_count}
 
@@ -38,17 +37,6 @@ pub record GoodPlaces (jobs : ℕ) (places : List ℕ) : Type 0 where
   pub bound : ℕ
   pub few : jobs + bound ≤ 256
   pub good : places_good (rule_count places) bound places ≡ true
-
--- a table's places fit behind those of another, unless there is a refusal
-pub record Fits (refusal jobs end : ℕ) (rules more : List ℕ) : Type 0 where
-  pub few : jobs ≤ 24
-  pub inside : end ≤ length rules
-  pub joins : refusal ≡ 0 → (end + length more ≤ length rules) × GoodPlaces jobs more
-
--- THE PLACES OF A SECOND TABLE BEHIND THOSE OF A FIRST, and where they end; after a refusal nothing changes
-pub record JoinsRules (refusal jobs end : ℕ) (rules more : List ℕ) (r : ℕ) (rules' : List ℕ) : Type 0 where
-  pub refused : (refusal ≡ 0 → ⊥) → (r ≡ end) × (rules' ≡ rules)
-  pub joined : refusal ≡ 0 → (r ≡ end + length more) × (rules' ≡ put end (renumbered_places jobs more) rules)
 
 -- THE NORMS of a second table behind those of a first
 unfoldable pub norm_of : (first : List ℕ) → (jobs : ℕ) → (second : List ℕ) → (job : ℕ) → ℕ

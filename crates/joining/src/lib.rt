@@ -1,24 +1,31 @@
 // A second table joined to the one that a call holds: its jobs are numbered on from the first's.
 #![tactic(auto)]
 
-ghost use Rattle.std.specs.Prelude.{◌≡◌, true, cond, ◌+◌, ◌-◌, ◌≤◌, ◌<◌, length};
+ghost use Rattle.std.specs.Prelude.{◌≡◌, true, cond, OnOk, ◌+◌, ◌-◌, ◌≤◌, ◌<◌, length};
+ghost use Rattle.answer.specs.Refusals.{refusal_of};
 ghost use Rattle.area.specs.Areas as areas;
 ghost use Rattle.bpa.specs.Plans.{all_below};
-ghost use Rattle.joined.specs.Joined.{renumbered};
-ghost use Rattle.joining.specs.JoinedBytes.{sizes_refusal, renumbered_place, renumbered_places, GoodPlace, GoodPlaces, Fits, JoinsRules, norm_of, JoinsNorms};
+ghost use Rattle.joined.specs.Joined.{renumbered, joined};
+ghost use Rattle.joining.specs.JoinedBytes.{tables_refusal, renumbered_place, renumbered_places, GoodPlace, GoodPlaces, JoinsNorms};
+ghost use Rattle.table.specs.Sources.{table_held};
 
-// Refusal 15, by the jobs of both tables and the bytes of their rules.
-pub fn refusal(jobs: usize, others: usize, end: usize, more: usize) -> u8
-    requires { (jobs ≤ 24) × ((others ≤ 24) × ((end ≤ 2016) × (more ≤ 2016))) }
-    ensures { result ≡ sizes_refusal (jobs + others) (end + more) }
+use answer::Refusal;
+use table::HeldTable;
+
+// The most jobs of a table, and the most bytes of its rules.
+const JOBS: usize = 24;
+
+const BYTES: usize = 2016;
+
+// Refusal 15, by the bytes in which the rules of both tables stand.
+pub fn check_sizes(first: &HeldTable, second: &HeldTable) -> Result<(), Refusal>
+    ensures refusal { refusal_of result ≡ tables_refusal (table_held first.now) (table_held second.now) }
+    ensures fit { OnOk result ((first.now.jobs + second.now.jobs ≤ 24) × (first.now.end + second.now.end ≤ 2016)) }
 {
-    if 24 < jobs + others {
-        return 15;
+    if JOBS < first.jobs + second.jobs || BYTES < first.end + second.end {
+        return Err(Refusal::TablesLarge);
     }
-    if 2016 < end + more {
-        return 15;
-    }
-    0
+    Ok(())
 }
 
 // A byte of a place: the job that it names, numbered on, or what it is if it names none.
@@ -55,65 +62,47 @@ fn renumber_places(places: &mut [u8], jobs: u8)
     requires { GoodPlaces jobs places.old }
     ensures { places.new ≡ renumbered_places jobs places.old }
 {
-    let count = places.len() / 8;
-    let mut i = 0;
-    while i < count {
-        let start = 8 * i;
-        let next = start + 8;
-        renumber_place(&mut places[start..next], jobs);
-        i += 1;
+    // By places and not by `chunks_exact_mut`, after which no proof knows the bytes.
+    for i in 0..places.len() / 8 {
+        renumber_place(&mut places[8 * i..8 * i + 8], jobs);
     }
 }
 
-// Puts the places of a second table behind those of a first, and gives their end.
-fn append(rules: &mut [u8], end: usize, more: &[u8], jobs: u8) -> usize
-    requires { (end + length more.now ≤ length rules.old) × GoodPlaces jobs more.now }
-    ensures { (result ≡ end + length more.now) × (rules.new ≡ areas.put end (renumbered_places jobs more.now) rules.old) }
+// Puts the places of a second table behind those of a first.
+fn append(rules: &mut [u8; 2016], end: usize, more: &[u8], jobs: u8)
+    requires { (end + length more.now ≤ 2016) × GoodPlaces jobs more.now }
+    ensures { rules.new ≡ areas.put end (renumbered_places jobs more.now) rules.old }
 {
-    let last = area::put(rules, end, more);
+    let last = end + more.len();
+    rules[end..last].copy_from_slice(more);
     renumber_places(&mut rules[end..last], jobs);
-    last
 }
 
-// Joins the rules of a second table to those of a first, unless there is a refusal, and gives the end of all rules.
-pub fn join_rules(
-    refusal: u8,
-    jobs: usize,
-    end: usize,
-    rules: &mut [u8; 2016],
-    more: &[u8],
-) -> usize
-    requires { Fits refusal jobs end rules.old more.now }
-    ensures { JoinsRules refusal jobs end rules.old more.now result rules.new }
+// Puts the norms of a second table behind those of a first.
+fn join_norms(norms: &mut [u16; 24], jobs: usize, others: &[u16; 24])
+    requires { jobs ≤ 24 }
+    ensures { JoinsNorms norms.old jobs others.now norms.new }
 {
-    if refusal != 0 {
-        return end;
-    }
-    append(rules, end, more, jobs as u8)
+    norms[jobs..].copy_from_slice(&others[..24 - jobs]);
 }
 
-// The norm of a job of the joined table.
-fn norm_at(first: &[u16; 24], jobs: usize, second: &[u16; 24], job: usize) -> u16
-    requires { job < 24 }
-    ensures { result ≡ norm_of first.now jobs second.now job }
+// Joins a second table to the first, if both are few enough together.
+pub fn join(table: &mut HeldTable, other: &HeldTable)
+    requires jobs { table.old.jobs + other.now.jobs ≤ 24 }
+    requires rules { table.old.end + other.now.end ≤ 2016 }
+    ensures jobs { table.new.jobs ≡ table.old.jobs + other.now.jobs }
+    ensures joined { table_held table.new ≡ joined (table_held table.old) (table_held other.now) }
+    ensures norms { JoinsNorms table.old.norms table.old.jobs other.now.norms table.new.norms }
 {
-    if job < jobs {
-        return first[job];
-    }
-    second[job - jobs]
-}
-
-// The norms of a second table behind those of a first.
-pub fn join_norms(first: &[u16; 24], jobs: usize, second: &[u16; 24]) -> [u16; 24]
-    ensures { JoinsNorms first.now jobs second.now result }
-{
-    let mut norms = [0u16; 24];
-    let mut j = 0;
-    while j < 24 {
-        norms[j] = norm_at(first, jobs, second, j);
-        j += 1;
-    }
-    norms
+    append(
+        &mut table.rules,
+        table.end,
+        &other.rules[..other.end],
+        table.jobs as u8,
+    );
+    join_norms(&mut table.norms, table.jobs, &other.norms);
+    table.jobs += other.jobs;
+    table.end += other.end;
 }
 
 // Puts a plan of the second table, its jobs numbered on, at the front of an area.
@@ -121,9 +110,7 @@ pub fn renumber_plan(plan: &[u8], jobs: u8, out: &mut [u8])
     requires { (length plan.now ≤ length out.old) × (all_below (256 - jobs) plan.now ≡ true) }
     ensures { out.new ≡ areas.put 0 (renumbered jobs plan.now) out.old }
 {
-    let mut i = 0;
-    while i < plan.len() {
+    for i in 0..plan.len() {
         out[i] = jobs + plan[i];
-        i += 1;
     }
 }

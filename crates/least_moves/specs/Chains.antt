@@ -14,11 +14,7 @@ pub record Least (rs ns : List ℕ) (j from i : ℕ) : Type 0 where
   pub after : from ≤ i
   pub least : (k : ℕ) → from ≤ k → Lowers rs ns j k → (rule_at rs i).move ≤ (rule_at rs k).move
 
--- a rule may come to stand before the one that a chain begins with so far: there is none, or that one's move is not lesser
-abbrev pub NotLater : (rules : List ℕ) → (i first : ℕ) → Type 0
-NotLater rs i f = f < rule_count rs → (rule_at rs i).move ≤ (rule_at rs f).move
-
--- what follows it then: that rule if the moves are equal, and else none
+-- what follows a rule that comes to stand before the one that a chain begins with so far: that one if their moves are equal, and else none
 pub record Follows (rs : List ℕ) (i first r : ℕ) : Type 0 where
   pub within : r ≤ rule_count rs
   pub tie : first < rule_count rs → (rule_at rs i).move ≡ (rule_at rs first).move → r ≡ first

@@ -1,77 +1,53 @@
 // The norm-lowering rules of each job that have the least move, as a chain.
 #![tactic(auto)]
 
-ghost use Rattle.std.specs.Prelude.{◌≡◌, ◌<◌, length};
+ghost use Rattle.std.specs.Prelude.{◌≡◌, ◌↔◌, IsTrue, ℕ, ◌<◌, length};
+ghost use Rattle.std.specs.Option.{unwrap_or};
 ghost use Rattle.rules.specs.Places.{rule_at, rule_count};
-ghost use Rattle.norm.specs.NormArrays.{GoodNorms};
-ghost use Rattle.rows.specs.Answers.{Decides};
-ghost use Rattle.least_moves.specs.Chains.{LowersWithin, NotLater, Follows, LeastChains};
+ghost use Rattle.least_moves.specs.Chains.{LowersWithin, Follows, LeastChains};
 
-use area::wide;
-use norm::norm_of;
-use rules::{rule_after, rule_job, rule_move, rule_total};
+use norm::Normed;
+use rules::Rules;
 
 // Whether a rule lowers the norm of its job by one, and that norm is at most a bound.
-fn lowers(jobs: usize, rules: &[u8], norms: &[u16; 24], bound: u32, i: usize) -> bool
-    requires good_norms { GoodNorms jobs rules.now norms.now }
-    requires i_bound { i < rule_count rules.now }
-    ensures { Decides result (LowersWithin rules.now norms.now bound (rule_at rules.now i).job i) }
+#[tactic(auto, using(bpa::proofs::Basics::JobsBelow::below_more))]
+fn lowers(table: &Normed, bound: u32, i: usize) -> bool
+    requires { i < rule_count table.now.rules.now }
+    ensures { IsTrue result ↔ LowersWithin table.now.rules.now table.now.norms.now bound (rule_at table.now.rules.now i).job i }
 {
-    let norm = norm_of(norms, rule_job(rules, i));
-    if bound < norm {
-        return false;
-    }
-    norm == 1 + norm::capped_sum(norms, rule_after(rules, i))
+    let list = table.list();
+    let norm = u32::from(table.norms[list.job(i)]);
+    norm <= bound && norm == 1 + norm::capped_sum(table.norms, list.after(i))
 }
 
-// Whether a rule may come to stand before the one that a chain begins with so far: there is none, or that one's move is not lesser.
-fn not_later(rules: &[u8], i: usize, first: usize) -> bool
-    requires { i < rule_count rules.now }
-    ensures { Decides result (NotLater rules.now i first) }
+// What follows a rule in its chain: the rule that the chain began with so far, if their moves are equal.
+fn follower(list: &Rules, i: usize, first: usize) -> Option<usize>
+    requires { i < rule_count list.now.bytes.now }
+    ensures { Follows list.now.bytes.now i first (unwrap_or result (rule_count list.now.bytes.now)) }
 {
-    if rule_total(rules) <= first {
-        return true;
+    if first < list.count() && list.action(i) == list.action(first) {
+        return Some(first);
     }
-    rule_move(rules, i) <= rule_move(rules, first)
-}
-
-// What follows a rule in its chain: the rule that the chain began with so far, if their moves are equal, and else none.
-fn follower(rules: &[u8], i: usize, first: usize) -> usize
-    requires { i < rule_count rules.now }
-    ensures { Follows rules.now i first result }
-{
-    let total = rule_total(rules);
-    if total <= first {
-        return total;
-    }
-    if rule_move(rules, i) == rule_move(rules, first) {
-        return first;
-    }
-    total
+    None
 }
 
 // For each job whose norm is at most a bound its norm-lowering rules with the least move, as a chain: the first of them, and after each the next.
-pub fn least_chains(
-    jobs: usize,
-    rules: &[u8],
-    norms: &[u16; 24],
-    bound: u32,
-    next: &mut [u8; 252],
-) -> [u8; 24]
-    requires good_norms { GoodNorms jobs rules.now norms.now }
-    requires next_len { length next.old ≡ 252 }
-    ensures { LeastChains rules.now norms.now bound result next.new }
+// A chain ends with the number of rules.
+pub fn least_chains(table: &Normed, bound: u32, next: &mut [u8; 252]) -> [u8; 24]
+    requires { length next.old ≡ 252 }
+    ensures chains { LeastChains table.now.rules.now table.now.norms.now bound result next.new }
+    ensures moves { (i : ℕ) → i < rule_count table.now.rules.now → (rule_at table.now.rules.now i).move < 65536 }
 {
-    let total = rule_total(rules);
+    let list = table.list();
+    let total = list.count();
     let mut first = [total as u8; 24];
-    let mut i = total;
-    while 0 < i {
-        i -= 1;
-        if lowers(jobs, rules, norms, bound, i) {
-            let j = rule_job(rules, i);
-            let old = wide(first[j]);
-            if not_later(rules, i, old) {
-                next[i] = follower(rules, i, old) as u8;
+    for i in (0..total).rev() {
+        let action = list.action(i);
+        if lowers(table, bound, i) {
+            let j = list.job(i);
+            let old = usize::from(first[j]);
+            if total <= old || action <= list.action(old) {
+                next[i] = follower(&list, i, old).unwrap_or(total) as u8;
                 first[j] = i as u8;
             }
         }

@@ -21,7 +21,7 @@ use Rattle.reach.proofs.ReachLaws.{reaches_none, reaches_joined, reaches_as}
 use Rattle.following.proofs.WordWalk.{last_or}
 use Rattle.following.specs.Followed.{cell_of, KnownCells}
 use Rattle.levels.specs.Levels.{LevelCleared, RuleAdded, RuleFor, EndsBy, GetsBy, LevelBy}
-use Rattle.levels.proofs.CellChanges.{level_apart, job_apart, same_reaches, known_kept}
+use Rattle.levels.proofs.CellChanges.{level_apart, job_apart, known_kept}
 
 no_moves : (log : List ℕ) → last 0 log ≡ []
 no_moves log = last_rest log [] log (sym (append-nil log))
@@ -85,7 +85,7 @@ module _ (n : ℕ) (rs : List ℕ) (good : GoodList n rs) where
     level_none s u low f known = record {
       known = known_kept t log s u d (λ j k h. f.others j k (omega (arith, h)) (λ e. omega (arith, e, h))) known;
       level = λ j h.
-          rw (f.low_none j h, f.high_none j h, f.least_all j h)
+          rw (f.none j h)
           (reaches_as
           (λ e. ((λ x. absurd x), (λ w. let (k, l, g, m) = w in omega (arith, l))))
           (λ e. ((λ x. inl x), (λ w. ⊎_elim (λ x. x) (λ v. let (k, l, g, m) = v in absurd (omega (arith, l))) w)))
@@ -110,12 +110,12 @@ module _ (n : ℕ) (rs : List ℕ) (good : GoodList n rs) where
           let old = b.level j h in
           let cells = subst (λ (x : ℕ). CellReaches (cell_of x (suc d)) s (EndsBy t rs log d a i j) (GetsBy t rs log d a i j)) (sym e) old in
           subst (λ (x : ℕ). CellReaches (cell_of x (suc d)) u (EndsBy t rs log d a (i + 1) j) (GetsBy t rs log d a (i + 1) j)) e
-          (reaches_as (ends_added i j r) (gets_added i j r) (reaches_joined cells row (f.joins row.short cells.short)))
+          (reaches_as (ends_added i j r) (gets_added i j r) (reaches_joined cells row f.joins))
 
       other_cell : (j : ℕ) → j < n → ((rule_at rs i).job ≡ j → ⊥) →
           CellReaches (cell_of j (suc d)) u (EndsBy t rs log d a (i + 1) j) (GetsBy t rs log d a (i + 1) j)
       other_cell j h no_rule =
-          same_reaches (f.others (cell_of j (suc d)) (job_apart j (rule_at rs i).job (suc d) (λ e. no_rule (sym e))))
+          rw (f.others (cell_of j (suc d)) (job_apart j (rule_at rs i).job (suc d) (λ e. no_rule (sym e))))
           (reaches_as (ends_passed i j (λ r. no_rule r.own)) (gets_passed i j (λ r. no_rule r.own)) (b.level j h))
 
       pub level_added : LevelBy n rs log d a (i + 1) u
@@ -189,7 +189,7 @@ module _ (n : ℕ) (rs : List ℕ) (good : GoodList n rs) where
         let z : k ≡ 0 = omega (arith, m) in
         let own = subst (λ (x : ℕ). j < x) own_jobs h in
         subst (λ (x : ℕ). CellReaches (cell_of j x) u (Ends t (j ∷ []) (last x log)) (Gets t (j ∷ []) (last x log))) (sym z)
-        (rw (no_moves log, f.low_none j own, f.high_none j own, f.least_all j own)
+        (rw (no_moves log, f.none j own)
         (reaches_as
         (λ e. ((λ x. absurd x), (λ w. no_log_ends t j e w)))
         (λ e. ((λ x. subst (Gets t (j ∷ []) []) (sym x) (gets_all t (j ∷ []) [])), (λ w. let g = gets_few t (j ∷ []) [] e w in omega (arith, g))))

@@ -3,34 +3,27 @@ use Rattle.std.specs.Prelude.{◌≡◌, List, ◌⊎◌, ℕ, suc, ◌-◌, ◌
 use Rattle.bpa.specs.Plans.{Table}
 use Rattle.rules.specs.Places.{rule_at, rule_count, table_of}
 use Rattle.replay.specs.Ends.{last, Ends, Gets}
-use Rattle.reach.specs.Cells.{low_at, high_at, least_at}
+use Rattle.reach.specs.Cells.{reach_in}
+use Rattle.reach.specs.declared.Reach.{Reach}
 use Rattle.reach.specs.Reaches.{CellReaches, Joins}
 use Rattle.following.specs.Followed.{cell_of, KnownCells, Follows}
 
 -- a cell that stays
-pub record SameCell (c : ℕ) (cells cells' : List ℕ) : Type 0 where
-  pub low_is : low_at c cells' ≡ low_at c cells
-  pub high_is : high_at c cells' ≡ high_at c cells
-  pub least_is : least_at c cells' ≡ least_at c cells
+abbrev pub SameCell : (cell : ℕ) → (cells cells' : List ℕ) → Type 0
+SameCell c s u = reach_in c u ≡ reach_in c s
 
 -- THE CELLS OF ONE LEVEL, those of so many moves left, for the first jobs: nothing is reached but where they begin. The others stay.
 pub record LevelCleared (jobs left : ℕ) (cells cells' : List ℕ) : Type 0 where
   pub size : length cells' ≡ length cells
-  pub low_none : (j : ℕ) → j < jobs → low_at (cell_of j left) cells' ≡ 0
-  pub high_none : (j : ℕ) → j < jobs → high_at (cell_of j left) cells' ≡ 0
-  pub least_all : (j : ℕ) → j < jobs → least_at (cell_of j left) cells' ≡ left
+  pub none : (j : ℕ) → j < jobs → reach_in (cell_of j left) cells' ≡ record { low = 0; high = 0; least = left }
   pub others : (j d : ℕ) → d ≤ 128 → (d ≡ left → ⊥) → SameCell (cell_of j d) cells cells'
 
 -- A RULE ADDED to the cell of its job, one move before so many are left: what its row reaches from there is joined to it. The others stay.
 pub record RuleAdded (rules : List ℕ) (i left : ℕ) (cells cells' : List ℕ) : Type 0 where
   pub size : length cells' ≡ length cells
-  pub low : ℕ
-  pub high : ℕ
-  pub least : ℕ
-  pub follows : Follows cells (rule_at rules i).after left low high least
-  pub joins : let c = cell_of (rule_at rules i).job (suc left) in
-      least ≤ 128 → least_at c cells ≤ 128 →
-      Joins (low_at c cells) (high_at c cells) (least_at c cells) low high least (low_at c cells') (high_at c cells') (least_at c cells')
+  pub row : Reach
+  pub follows : Follows cells (rule_at rules i).after left row
+  pub joins : let c = cell_of (rule_at rules i).job (suc left) in Joins (reach_in c cells) row (reach_in c cells')
   pub others : (c : ℕ) → (c ≡ cell_of (rule_at rules i).job (suc left) → ⊥) → SameCell c cells cells'
 
 -- a rule of a job for a move

@@ -1,19 +1,18 @@
 -- The moves of a log by their places in its bytes, and what a move counts as, looked up pair by pair. Assumes nothing.
 use mathlib.Core.Path.{◌≡◌, refl, sym, ap, ◌∙◌}
-use mathlib.Core.Bool.{Bool, true, false, cond}
+use mathlib.Core.Bool.{true, false, cond}
 use mathlib.Core.List.{List, [], ◌∷◌, ◌++◌, map}
-use Prim.Native.Nat.{ℕ, zero, suc, ◌+◌, ◌-◌, ◌*◌, ◌/◌, ◌%◌, ◌≤◌, ◌<◌}
+use Prim.Native.Nat.{ℕ, zero, suc, ◌+◌, ◌*◌, ◌/◌, ◌%◌, ◌≤◌, ◌<◌}
 use native.Mathlib.Numerals.{add-one}
 use native.Mathlib.Omega.{arith}
 use lib.Dec.{ltb, eqb}
-use lib.ListN.{length, get_or, take, drop, set, replicate, length-set, length-replicate, length-map}
-use lib.Seq.{take-suc, take_all, take-suc-set, drop-drop}
-use borrow.Author.Tests.{eqb-true, eq-eqb, ltb-true, ltb-false, lt-ltb, le-ltb}
+use lib.ListN.{length, get_or, take, set, replicate, length-set, length-replicate, length-map}
+use lib.Seq.{take-suc, take_all, take-suc-set}
+use borrow.Author.Tests.{ltb-true, ltb-false, lt-ltb, le-ltb}
 use Rattle.area.specs.Numbers.{number_at, numbers_in}
-use Rattle.bpa.proofs.Basics.Cases.{by_test, or_right, is_false}
+use Rattle.bpa.proofs.Basics.Cases.{by_test, or_right}
 use Rattle.alike.specs.Alike.{replace}
 use Rattle.alike_list.specs.AlikeLists.{pairs_in, pair_count, alike_pairs}
-use Rattle.alike_list.proofs.PairLists.{number_drop}
 use Rattle.log_moves.specs.Logs.{log_moves, counted_log, log_refusal, HoldsLog}
 
 -- THE MOVES: as many as two bytes each, and each at its place
@@ -69,46 +68,24 @@ module _ (ls bs : List ℕ) where
         moves = ap (λ (n : ℕ). take n a) e ∙ c.moves ∙ take_all k (counted_log ls bs) (omega (arith, length_counted));
       }
 
--- WHAT A MOVE COUNTS AS by the pairs from a place on
-abbrev pub from_on : (list : List ℕ) → (k move : ℕ) → ℕ
-from_on ls k a = replace (pairs_in (pair_count ls - k) (drop (4 * k) ls)) a
+-- WHAT A MOVE COUNTS AS: by the pair at the front of a list and the others, and by a list without a whole pair
+pub counts_next : (ls xs ys : List ℕ) (a : ℕ) → ls ≡ xs ++ ys → length xs ≡ 4 →
+    replace (alike_pairs ls) a ≡ cond (eqb (number_at 0 xs) a) (number_at 2 xs) (replace (alike_pairs ys) a)
+unfolding alike_pairs pairs_in pair_count replace number_at
+counts_next ls (w ∷ x ∷ y ∷ z ∷ []) ys a e h =
+    let more : length (w ∷ x ∷ y ∷ z ∷ ys) / 4 ≡ suc (length ys / 4) = omega arith in
+    ap (λ (l : List ℕ). replace (alike_pairs l) a) e ∙ ap (λ (n : ℕ). replace (pairs_in n (w ∷ x ∷ y ∷ z ∷ ys)) a) more
+counts_next ls [] ys a e h = absurd (omega arith)
+counts_next ls (w ∷ []) ys a e h = absurd (omega arith)
+counts_next ls (w ∷ x ∷ []) ys a e h = absurd (omega arith)
+counts_next ls (w ∷ x ∷ y ∷ []) ys a e h = absurd (omega arith)
+counts_next ls (v ∷ w ∷ x ∷ y ∷ z ∷ xs) ys a e h = absurd (omega arith)
 
-module _ (ls : List ℕ) (k a : ℕ) where
-  -- the pair at the place, and the others
-  next_pair : k < length ls / 4 →
-      from_on ls k a ≡ cond (eqb (number_at (4 * k) ls) a) (number_at (4 * k + 2) ls) (from_on ls (k + 1) a)
-  unfolding pairs_in pair_count replace
-  next_pair h =
-      let n = length ls / 4 - (k + 1) in
-      let xs = drop (4 * k) ls in
-      let more : length ls / 4 - k ≡ suc n = omega arith in
-      let at : 4 * k + 0 ≡ 4 * k = omega arith in
-      let step : 4 * k + 4 ≡ 4 * (k + 1) = omega arith in
-      let from : number_at 0 xs ≡ number_at (4 * k) ls = number_drop (4 * k) 0 ls ∙ ap (λ (i : ℕ). number_at i ls) at in
-      let rest : drop 4 xs ≡ drop (4 * (k + 1)) ls = drop-drop 4 (4 * k) ls ∙ ap (λ (i : ℕ). drop i ls) step in
-      ap (λ (m : ℕ). replace (pairs_in m xs) a) more
-      ∙ (λ i. cond (eqb (from i) a) (number_drop (4 * k) 2 ls i) (replace (pairs_in n (rest i)) a))
-
-  pub counts_here : k < length ls / 4 → number_at (4 * k) ls ≡ a → from_on ls k a ≡ number_at (4 * k + 2) ls
-  counts_here h e = next_pair h ∙ ap (λ (b : Bool). cond b (number_at (4 * k + 2) ls) (from_on ls (k + 1) a)) (eq-eqb (number_at (4 * k) ls) a e)
-
-  pub counts_later : k < length ls / 4 → (number_at (4 * k) ls ≡ a → ⊥) → from_on ls k a ≡ from_on ls (k + 1) a
-  counts_later h n =
-      next_pair h
-      ∙ ap (λ (b : Bool). cond b (number_at (4 * k + 2) ls) (from_on ls (k + 1) a)) (is_false (eqb (number_at (4 * k) ls) a) (λ e. n (eqb-true (number_at (4 * k) ls) a e)))
-
-  -- no pair is left
-  pub counts_itself : length ls / 4 ≤ k → from_on ls k a ≡ a
-  unfolding pairs_in pair_count replace
-  counts_itself h =
-      let none : length ls / 4 - k ≡ 0 = omega arith in
-      ap (λ (m : ℕ). replace (pairs_in m (drop (4 * k) ls)) a) none
-
-pub counts_from_first : (ls : List ℕ) (a : ℕ) → from_on ls 0 a ≡ replace (alike_pairs ls) a
-unfolding alike_pairs
-counts_from_first ls a =
-    let all : pair_count ls - 0 ≡ pair_count ls = omega arith in
-    ap (λ (m : ℕ). replace (pairs_in m ls) a) all
+pub counts_itself : (ls : List ℕ) (a : ℕ) → length ls < 4 → replace (alike_pairs ls) a ≡ a
+unfolding alike_pairs pairs_in pair_count replace
+counts_itself ls a h =
+    let none : length ls / 4 ≡ 0 = omega arith in
+    ap (λ (n : ℕ). replace (pairs_in n ls) a) none
 
 -- REFUSAL 11
 module _ (bs : List ℕ) where

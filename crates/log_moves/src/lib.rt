@@ -2,36 +2,35 @@
 #![tactic(auto)]
 
 ghost use Rattle.std.specs.Prelude.{◌≡◌, ◌≤◌, length};
+ghost use Rattle.answer.specs.Refusals.{refusal_of};
 ghost use Rattle.alike.specs.Alike.{replace};
 ghost use Rattle.alike_list.specs.AlikeLists.{alike_pairs};
 ghost use Rattle.log_moves.specs.Logs.{log_refusal, HoldsLog};
 
 use alike_list::move_at;
+use answer::Refusal;
 
 // The most moves of a log.
 const MOVES: usize = 128;
 
 // Refusal 11.
-pub fn refusal(log: &[u8]) -> u8
-    ensures { result ≡ log_refusal log.now }
+pub fn check(log: &[u8]) -> Result<(), Refusal>
+    ensures { refusal_of result ≡ log_refusal log.now }
 {
     if MOVES < log.len() / 2 || 0 < log.len() % 2 {
-        return 11;
+        return Err(Refusal::LogLength);
     }
-    0
+    Ok(())
 }
 
 // What a move counts as by an alike list: the to-move of the pair whose from-move it is, and itself if there is none.
 fn counts_as(alike: &[u8], action: u16) -> u16
     ensures { result ≡ replace (alike_pairs alike.now) action }
 {
-    let count = alike.len() / 4;
-    let mut k = 0;
-    while k < count {
-        if move_at(alike, 4 * k) == action {
-            return move_at(alike, 4 * k + 2);
+    for pair in alike.chunks_exact(4) {
+        if move_at(pair, 0) == action {
+            return move_at(pair, 2);
         }
-        k += 1;
     }
     action
 }
@@ -41,12 +40,9 @@ pub fn counted_moves(alike: &[u8], log: &[u8]) -> [u16; 128]
     requires { length log.now ≤ 256 }
     ensures { HoldsLog alike.now log.now result }
 {
-    let count = log.len() / 2;
     let mut moves = [0u16; 128];
-    let mut k = 0;
-    while k < count {
+    for k in 0..log.len() / 2 {
         moves[k] = counts_as(alike, move_at(log, 2 * k));
-        k += 1;
     }
     moves
 }

@@ -5,13 +5,14 @@
 
 mod reports;
 
-// The descriptor of standard output.
+// The descriptor of standard output. Lines go out by the crate `io`, from the area in which each is proved (TableReport, JobReport, NextLine):
+// no contract says what `println!` prints.
 const STANDARD_OUTPUT: i32 = 1;
 
 // The whole run.
 pub fn run() {
     let mut image = [0u8; 2048];
-    let size = look_input::read_image(&mut image);
+    let size = look_input::read_image(&mut image).unwrap_or(0);
     if show_table(&image[0..size]) {
         show_pairs(&image[0..size]);
     }
@@ -21,20 +22,13 @@ pub fn run() {
 fn show_table(image: &[u8]) -> bool {
     let mut line = [0u8; 64];
     let first = reports::table_report(image, &mut line);
-    let size = first.size;
-    if io::write_all(STANDARD_OUTPUT, &line[0..size]) {
-        return show_jobs(image, first.jobs);
-    }
-    false
+    io::write_all(STANDARD_OUTPUT, &line[0..first.size]) && show_jobs(image, first.jobs)
 }
 
 // All jobs. Says whether there are any and each was written.
 fn show_jobs(image: &[u8], jobs: u8) -> bool {
-    let mut job = 0u8;
-    while job < jobs {
-        if show_job(image, job) {
-            job += 1;
-        } else {
+    for job in 0..jobs {
+        if !show_job(image, job) {
             return false;
         }
     }
@@ -50,11 +44,8 @@ fn show_job(image: &[u8], job: u8) -> bool {
 
 // Pairs up to the end of the input. A proved loop has to end, so it counts to a number that no run reaches.
 fn show_pairs(image: &[u8]) {
-    let mut pair = 1u64;
-    while pair < u64::MAX {
-        if show_pair(image, pair) {
-            pair += 1;
-        } else {
+    for pair in 1..u64::MAX {
+        if !show_pair(image, pair) {
             return;
         }
     }
@@ -65,9 +56,5 @@ fn show_pair(image: &[u8], pair: u64) -> bool {
     let mut input = [0u8; 8196];
     let mut line = [0u8; 64];
     let next = reports::next_line(image, pair, &mut input, &mut line);
-    let size = next.size;
-    if io::write_all(STANDARD_OUTPUT, &line[0..size]) {
-        return next.again;
-    }
-    false
+    io::write_all(STANDARD_OUTPUT, &line[0..next.size]) && next.again
 }

@@ -5,14 +5,14 @@ ghost use Rattle.look.specs.Reports.{TableReport, JobReport, PairReport, NextLin
 use look_input::Got;
 
 // How many jobs are to be shown, and the size of the first line.
-#[derive(Drop)]
+#[derive(Clone, Copy, Debug, PartialEq, Eq)]
 pub struct First {
     pub jobs: u8,
     pub size: usize,
 }
 
 // The size of a pair's line, and whether another pair may follow.
-#[derive(Drop)]
+#[derive(Clone, Copy, Debug, PartialEq, Eq)]
 pub struct Next {
     pub size: usize,
     pub again: bool,
@@ -23,21 +23,18 @@ pub fn table_report(image: &[u8], line: &mut [u8]) -> First
     requires { 64 ≤ length line.old }
     ensures { TableReport image.now line.old result.jobs result.size line.new }
 {
-    let table = table::load(image);
-    let refusal = table.refusal;
-    if refusal != 0 {
-        let size = look_lines::refused_line(refusal as u64, line);
-        return First {
+    match table::read(image) {
+        Ok(held) => {
+            let table = held.normed();
+            First {
+                jobs: table.jobs as u8,
+                size: look_lines::table_line(table.jobs as u64, table.list().count() as u64, line),
+            }
+        }
+        Err(refusal) => First {
             jobs: 0,
-            size: size,
-        };
-    }
-    let jobs = table.jobs;
-    let count = table.end / 8;
-    let size = look_lines::table_line(jobs as u64, count as u64, line);
-    First {
-        jobs: jobs as u8,
-        size: size,
+            size: look_lines::refused_line(refusal, line),
+        },
     }
 }
 
@@ -49,10 +46,10 @@ pub fn job_report(image: &[u8], job: u8, line: &mut [u8]) -> usize
     let mut form = [0u8; 512];
     let mut space = [0u8; 65536];
     let plan = [job];
-    let norm = plans::plan_norm(image, &plan);
-    let answer = prime_forms::prime_form(image, &plan, &mut form, &mut space);
-    let size = look_lines::result_in(answer) as usize;
-    look_lines::job_line(job, look_lines::result_in(norm), &form[0..size], line)
+    let norm = plans::plan_norm(image, &plan).unwrap_or(0);
+    let answer = prime_forms::write_form(image, &plan, &mut form, &mut space);
+    let size = usize::from(answer.unwrap_or(0));
+    look_lines::job_line(job, u64::from(norm), &form[0..size], line)
 }
 
 // The line of a pair.
@@ -61,7 +58,7 @@ pub fn pair_report(image: &[u8], pair: u64, left: &[u8], right: &[u8], line: &mu
     ensures { PairReport image.now pair left.now right.now line.old result line.new }
 {
     let mut space = [0u8; 65536];
-    let answer = sameness::compare(image, left, right, &mut space);
+    let answer = sameness::compare_plans(image, left, right, &mut space);
     look_lines::pair_line(pair, answer, line)
 }
 
@@ -71,27 +68,16 @@ pub fn next_line(image: &[u8], pair: u64, input: &mut [u8], line: &mut [u8]) -> 
     ensures { NextLine image.now pair input.new line.old result.size result.again line.new }
 {
     let read = look_input::read_pair(input);
-    let left = read.left;
-    let Got::Plan(jobs) = left else {
-        let size = look_lines::end_line(left, line);
-        return Next {
-            size: size,
-            again: false,
-        };
+    let Got::Plan(jobs) = read.left else {
+        let size = look_lines::end_line(read.left, line);
+        return Next { size, again: false };
     };
-    let right = read.right;
-    let Got::Plan(others) = right else {
-        let size = look_lines::end_line(look_input::right_end(right), line);
-        return Next {
-            size: size,
-            again: false,
-        };
+    let Got::Plan(others) = read.right else {
+        let size = look_lines::end_line(look_input::right_end(read.right), line);
+        return Next { size, again: false };
     };
     let end = 2 + jobs;
     let stop = 4100 + others;
     let size = pair_report(image, pair, &input[2..end], &input[4100..stop], line);
-    Next {
-        size: size,
-        again: true,
-    }
+    Next { size, again: true }
 }

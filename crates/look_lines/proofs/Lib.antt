@@ -1,5 +1,5 @@
 -- Laws of the lines.
 pub mod Numbers
-pub mod Answers
+pub mod Verdicts
 pub mod Puts
 pub mod Parts

@@ -3,9 +3,11 @@
 
 ghost use Rattle.std.specs.Prelude.{◌≡◌, [], ◌∷◌, ◌+◌, ◌*◌, ◌≤◌, length};
 ghost use Rattle.area.specs.Areas.{IsPut};
-ghost use Rattle.look_lines.specs.Numbers.{refusal_in, result_in};
+ghost use Rattle.answer.specs.Refusals.{number};
+ghost use Rattle.answer.specs.Answer.{answered};
 ghost use Rattle.look_lines.specs.Lines.{IsLine, field, jobs_text, refused_line, table_line, job_line, pair_line, end_line};
 
+use answer::Refusal;
 use look_input::Got;
 
 // A word and a number behind it; the place behind both.
@@ -19,30 +21,12 @@ fn put_field(line: &mut [u8], at: usize, word: &[u8], value: u64) -> usize
     area::put(line, next, &text[0..size])
 }
 
-// The number of a refusal, and 0 for a result.
-pub fn refusal_in(answer: i32) -> u64
-    ensures { result ≡ refusal_in answer }
-{
-    if answer < 0 {
-        (0 - answer as i64) as u64
-    } else {
-        0
-    }
-}
-
-// A result, and 0 for a refusal.
-pub fn result_in(answer: i32) -> u64
-    ensures { result ≡ result_in answer }
-{
-    if answer > 0 { answer as u64 } else { 0 }
-}
-
 // `refused N`.
-pub fn refused_line(refusal: u64, line: &mut [u8]) -> usize
+pub fn refused_line(refusal: Refusal, line: &mut [u8]) -> usize
     requires { 64 ≤ length line.old }
-    ensures { IsLine (refused_line refusal) line.old result line.new }
+    ensures { IsLine (refused_line (number refusal)) line.old result line.new }
 {
-    let next = put_field(line, 0, b"refused ", refusal);
+    let next = put_field(line, 0, b"refused ", u64::from(refusal.number()));
     area::put(line, next, b"\n")
 }
 
@@ -61,7 +45,7 @@ fn put_job(line: &mut [u8], at: usize, job: u8) -> usize
     requires { at + 21 ≤ length line.old }
     ensures { (result ≤ at + 4) × IsPut at (field (32 ∷ []) job) line.old result line.new }
 {
-    put_field(line, at, b" ", job as u64)
+    put_field(line, at, b" ", u64::from(job))
 }
 
 // Jobs, each behind a space.
@@ -70,10 +54,8 @@ fn put_jobs(line: &mut [u8], at: usize, jobs: &[u8]) -> usize
     ensures { (result ≤ at + 4 * length jobs.now) × IsPut at (jobs_text jobs.now) line.old result line.new }
 {
     let mut next = at;
-    let mut i = 0;
-    while i < jobs.len() {
-        next = put_job(line, next, jobs[i]);
-        i += 1;
+    for &job in jobs {
+        next = put_job(line, next, job);
     }
     next
 }
@@ -83,27 +65,26 @@ pub fn job_line(job: u8, norm: u64, form: &[u8], line: &mut [u8]) -> usize
     requires { 80 + 4 * length form.now ≤ length line.old }
     ensures { IsLine (job_line job norm form.now) line.old result line.new }
 {
-    let first = put_field(line, 0, b"job ", job as u64);
+    let first = put_field(line, 0, b"job ", u64::from(job));
     let second = put_field(line, first, b" ", norm);
     let next = put_jobs(line, second, form);
     area::put(line, next, b"\n")
 }
 
 // `pair K same`, `pair K apart` or `pair K refused N`.
-pub fn pair_line(pair: u64, answer: i32, line: &mut [u8]) -> usize
+pub fn pair_line(pair: u64, answer: Result<u16, Refusal>, line: &mut [u8]) -> usize
     requires { 64 ≤ length line.old }
-    ensures { IsLine (pair_line pair answer) line.old result line.new }
+    ensures { IsLine (pair_line pair (answered answer)) line.old result line.new }
 {
     let first = put_field(line, 0, b"pair ", pair);
-    let refusal = refusal_in(answer);
-    if refusal != 0 {
-        let next = put_field(line, first, b" refused ", refusal);
-        return area::put(line, next, b"\n");
+    match answer {
+        Err(refusal) => {
+            let next = put_field(line, first, b" refused ", u64::from(refusal.number()));
+            area::put(line, next, b"\n")
+        }
+        Ok(0) => area::put(line, first, b" apart\n"),
+        Ok(_) => area::put(line, first, b" same\n"),
     }
-    if result_in(answer) != 0 {
-        return area::put(line, first, b" same\n");
-    }
-    area::put(line, first, b" apart\n")
 }
 
 // `cut` or `long`, at which a run ends. Nothing at the end of the input, nor for a whole plan.
@@ -114,7 +95,6 @@ pub fn end_line(got: Got, line: &mut [u8]) -> usize
     match got {
         Got::Cut => area::put(line, 0, b"cut\n"),
         Got::Long => area::put(line, 0, b"long\n"),
-        Got::End => 0,
-        Got::Plan(_) => 0,
+        Got::End | Got::Plan(_) => 0,
     }
 }

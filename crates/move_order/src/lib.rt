@@ -1,9 +1,8 @@
 // Rows of moves, two bytes each, compared in dictionary order of move numbers.
 #![tactic(auto)]
 
-ghost use Rattle.std.specs.Prelude.{◌≡◌, length};
+ghost use Rattle.std.specs.Prelude.{◌≡◌, ◌↔◌, IsTrue, length};
 ghost use Rattle.area.specs.Numbers.{numbers_in};
-ghost use Rattle.rows.specs.Answers.{Decides};
 ghost use Rattle.comparing.specs.Comparisons.{Common};
 ghost use Rattle.first_run.specs.FirstRun.{Before};
 
@@ -15,13 +14,8 @@ fn common_front(left: &[u8], right: &[u8]) -> usize
     ensures { Common left.now right.now result }
 {
     let mut i = 0;
-    while 256 <= left.len() - i {
-        let to = i + 256;
-        if rows::same_row(&left[i..to], &right[i..to]) {
-            i = to;
-            continue;
-        }
-        return i;
+    while 256 <= left.len() - i && left[i..i + 256] == right[i..i + 256] {
+        i += 256;
     }
     i
 }
@@ -29,18 +23,16 @@ fn common_front(left: &[u8], right: &[u8]) -> usize
 // Whether a row of moves comes before another of the same length.
 pub fn comes_before(left: &[u8], right: &[u8]) -> bool
     requires { length left.now ≡ length right.now }
-    ensures { Decides result (Before (numbers_in left.now) (numbers_in right.now)) }
+    ensures { IsTrue result ↔ Before (numbers_in left.now) (numbers_in right.now) }
 {
     let front = common_front(left, right);
-    let mut k = (front + comparing::common(&left[front..], &right[front..])) / 2;
-    while 1 < left.len() - 2 * k {
+    let start = (front + comparing::common(&left[front..], &right[front..])) / 2;
+    for k in start..left.len() / 2 {
         let x = number_at(2 * k, left);
         let y = number_at(2 * k, right);
-        k += 1;
-        if x == y {
-            continue;
+        if x != y {
+            return x < y;
         }
-        return x < y;
     }
     false
 }

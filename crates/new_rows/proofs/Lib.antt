@@ -2,4 +2,4 @@
 pub mod InOrder
 pub mod Flags
 pub mod KnownRows
-pub mod NewHalf
+pub mod GrowingRows

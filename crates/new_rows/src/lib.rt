@@ -1,61 +1,55 @@
-// The new rows of all jobs, in the second half of an area: those of the old rows' half are refined.
+// The new rows of all jobs, by which the old rows are refined.
 #![tactic(auto)]
 
-ghost use Rattle.rows.specs.Region.{row, old_half, new_half};
-ghost use Rattle.facts.specs.Facts.{jobs_in};
+ghost use Rattle.rows.specs.Region.{row};
+ghost use Rattle.rows.specs.Rows.{rows_of};
+ghost use Rattle.facts.specs.Columns.{jobs_in};
 ghost use Rattle.fingerprints.specs.Fingerprints.{KnownPrints};
 ghost use Rattle.new_rows.specs.NewRows.{RowsReady, NewRows};
 
 use decomposing::new_row;
-use facts::{job_at, job_count};
-use fingerprints::all_prints;
-use rows::{row_len, same_row};
-use settled::settled;
+use facts::Facts;
+use fingerprints::{Prints, all_prints};
+use rows::Rows;
+use settled::is_settled;
 
-// The new rows of all jobs, in order. Jobs that are settled keep their rows. `moved` has the rows that are new: first those of the last round,
-// then those of this one. The fingerprints of the others are there.
-pub fn new_rows(
-    rules: &[u8],
-    facts: &[u64; 121],
-    sums: &[u16; 252],
-    next: &[u8; 252],
-    many: &[u8; 24],
-    old: &[u16; 24],
-    new: &mut [u16; 24],
-    moved: &mut [u8; 24],
-    area: &mut [u8],
-    prints: &mut [u32; 300],
-)
-    requires rows_ready { RowsReady rules.now facts.now sums.now next.now old.now new.old moved.old area.old }
-    requires known_prints { KnownPrints (jobs_in facts.now) (row old.now (old_half area.old)) moved.old prints.old }
-    ensures { NewRows rules.now facts.now old.now new.new moved.new area.old area.new × KnownPrints (jobs_in facts.now) (row new.new (new_half area.new)) moved.new prints.new }
+// What is known of the new rows beside their bytes: their lengths, which jobs have moved, those whose row is new since the round before,
+// and the fingerprints of the others.
+#[derive(Drop)]
+pub struct Round {
+    pub lens: [u16; 24],
+    pub moved: [bool; 24],
+    pub prints: Prints,
+}
+
+// The new rows of all jobs, in order. Jobs that are settled keep their rows.
+pub fn new_rows(facts: &Facts, many: &[bool; 24], old: &Rows, bytes: &mut [u8], round: &mut Round)
+    requires rows_ready { RowsReady facts.now old.now.lens.now old.now.bytes.now round.old.lens round.old.moved bytes.old }
+    requires known_prints { KnownPrints (jobs_in facts.now) (rows_of old.now) round.old.moved round.old.prints }
+    ensures rows { NewRows facts.now old.now.lens.now old.now.bytes.now round.new.lens round.new.moved bytes.new }
+    ensures known_prints { KnownPrints (jobs_in facts.now) (row round.new.lens bytes.new) round.new.moved round.new.prints }
 {
-    let jobs = job_count(facts);
-    all_prints(rules, sums, many, &area[0..12288], old, jobs, moved, prints);
-    let mut stale = *moved;
-    *moved = [0u8; 24];
-    let mut row = [0u8; 512];
-    let mut place = 0;
-    while place < jobs {
-        let at = place;
-        place += 1;
-        let y = job_at(facts, at);
-        if settled(rules, facts, next, old, new, area, &stale, y) {
+    all_prints(facts, many, old, &round.moved, &mut round.prints);
+    let mut stale = round.moved;
+    round.moved = [false; 24];
+    let mut out = [0; 512];
+    for place in 0..facts.table.jobs {
+        let y = facts.job_at(place);
+        if is_settled(facts, old, &stale, y) {
             continue;
         }
-        let part = new_row(
-            rules, facts, sums, next, prints, old, new, area, at, &mut row,
-        );
-        let start = 512 * y;
-        let end = start + row_len(old, y);
-        let from = part.from;
-        let to = part.to;
-        if same_row(&row[from..to], &area[start..end]) {
+        let new = Rows {
+            bytes: &*bytes,
+            lens: &round.lens,
+        };
+        let part = new_row(facts, &round.prints, old, &new, place, &mut out);
+        let row = &out[part];
+        if row == old.row(y) {
             continue;
         }
-        area::put(area, 12288 + 512 * y, &row[from..to]);
-        new[y] = (to - from) as u16;
-        stale[y] = 1;
-        moved[y] = 1;
+        area::put(bytes, 512 * y, row);
+        round.lens[y] = row.len() as u16;
+        stale[y] = true;
+        round.moved[y] = true;
     }
 }

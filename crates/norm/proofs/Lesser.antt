@@ -6,6 +6,7 @@ use Prim.Native.Nat.{ℕ, zero, suc, ◌≤◌, min}
 use native.Mathlib.Nat.{suc-min-suc, min-zero}
 use native.Mathlib.Omega.{arith}
 use lib.Dec.{eqb}
+use borrow.Author.Tests.{ne_eqb}
 use Rattle.bpa.specs.Plans.{Rule}
 use Rattle.bpa.specs.Norms.{sum_of, all_known, lesser, best}
 use Rattle.bpa.proofs.Norm.NormRounds.{lesser_none, lesser_both}
@@ -54,3 +55,8 @@ pub best_cons : (j : ℕ) (ns : List ℕ) (r : Rule) (rs : List Rule) →
     best j ns (r ∷ rs) ≡ cond (eqb r.job j) (lesser (norm_by ns r.after) (best j ns rs)) (best j ns rs)
 unfolding best norm_by
 best_cons j ns r rs = by_choice (eqb r.job j) (all_known ns r.after) (suc (sum_of ns r.after)) (best j ns rs)
+
+-- of two that are there it is the lesser
+pub lesser_known : (a b : ℕ) → (a ≡ 0 → ⊥) → (b ≡ 0 → ⊥) → lesser a b ≡ min a b
+unfolding lesser
+lesser_known a b h k = rw (ne_eqb a 0 h, ne_eqb b 0 k)

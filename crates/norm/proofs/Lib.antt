@@ -4,3 +4,4 @@ pub mod RoundPass
 pub mod RuleNorm
 pub mod Agreement
 pub mod NormsByRounds
+pub mod NormedTables

@@ -19,6 +19,10 @@ use Rattle.rules.proofs.ListLaws.{rules_from, rules_from_start, rules_from_cons,
 use Rattle.norm.specs.NormArrays.{Agree, norm_by}
 use Rattle.norm.proofs.Lesser.{lesser_left, lesser_right, lesser_assoc, lesser_cap, best_cons}
 
+-- norms are capped at 513
+pub cap_positive : 1 ≤ 513
+cap_positive = omega arith
+
 module _ (m : ℕ) (one : 1 ≤ m) (n : ℕ) (old rs : List ℕ) where
   -- after the rules before i: what is found and what the others will give make the round
   pub record Passed (i : ℕ) (new : List ℕ) : Type 0 where

@@ -6,53 +6,57 @@ ghost use Rattle.bpa.specs.Plans.{all_below};
 ghost use Rattle.bpa.specs.Norms.{sum_of, lesser};
 ghost use Rattle.rules.specs.Places.{table_of};
 ghost use Rattle.rules.specs.Lists.{GoodList};
-ghost use Rattle.norm.specs.NormArrays.{IsNorm, norm_by, IsRound, NormArray};
+ghost use Rattle.norm.specs.NormArrays.{IsNorm, norm_by, IsRound, NormArray, ExactNorms};
+
+use rules::Rules;
+
+// A table that refusals 2 to 7 have passed, lent: its rules, and the exact norms of its jobs.
+#[derive(Clone, Copy)]
+pub struct Normed<'a> {
+    pub jobs: usize,
+    pub rules: &'a [u8],
+    pub norms: &'a [u16; 24],
+    ghost list: { GoodList jobs rules.now },
+    ghost exact: { ExactNorms (table_of jobs rules.now) norms.now },
+    ghost finite: { (j : ℕ) → j < jobs → 0 < get_or norms.now j 0 },
+}
+
+impl<'a> Normed<'a> {
+    // The table without its norms.
+    pub fn list(&self) -> Rules<'a>
+        ensures { (result.jobs ≡ self.now.jobs) × (result.bytes.now ≡ self.now.rules.now) }
+    {
+        Rules {
+            jobs: self.jobs,
+            bytes: self.rules,
+        }
+    }
+}
 
 // A norm above 512 stands as this number.
 const MOST: u32 = 513;
 
-// The lesser of two norms, of which 0 is none.
+// The lesser of two norms, of which 0 is none. In an array of numbers that C's callers never see, 0 takes no room of its own.
+#[tactic(auto, using(crate::proofs::Lesser::lesser_known))]
 fn lesser_of(a: u16, b: u16) -> u16
     ensures { result ≡ lesser a b }
 {
-    if a == 0 {
-        return b;
+    match (a, b) {
+        (0, norm) => norm,
+        (norm, 0) => norm,
+        _ => a.min(b),
     }
-    if b == 0 {
-        return a;
-    }
-    if a < b {
-        return a;
-    }
-    b
 }
 
-// The norm of a job, as an array of norms has it.
-pub fn norm_of(norms: &[u16; 24], job: usize) -> u32
-    requires { job < 24 }
-    ensures { IsNorm (get_or norms.now job 0) result }
-{
-    wide_norm(norms[job])
-}
-
-fn wide_norm(n: u16) -> u32
-    ensures { IsNorm n result }
-{
-    n as u32
-}
-
-// The sum of the numbers of a plan's jobs, if they are so few that no test is needed in the loop.
+// The sum of the numbers of a plan's jobs, if they are so few that no test is needed in the loop: a test at each job costs as much as the sum.
 fn short_sum(numbers: &[u16; 24], plan: &[u8]) -> u32
     requires plan_value { all_below 24 plan.now ≡ true }
     requires plan_len_bound { length plan.now ≤ 4096 }
     ensures { result ≡ sum_of numbers.now plan.now }
 {
     let mut sum: u32 = 0;
-    let mut k = 0;
-    while k < plan.len() {
-        let job = plan[k] as usize;
-        k += 1;
-        sum += norm_of(numbers, job);
+    for &job in plan {
+        sum += u32::from(numbers[usize::from(job)]);
     }
     sum
 }
@@ -63,12 +67,10 @@ fn long_sum(numbers: &[u16; 24], plan: &[u8]) -> u32
     ensures { result ≡ min 4097 (sum_of numbers.now plan.now) }
 {
     let mut sum: u32 = 0;
-    let mut k = 0;
-    while k < plan.len() {
-        let job = plan[k] as usize;
-        k += 1;
-        sum += norm_of(numbers, job);
-        if 4096 < sum {
+    for &job in plan {
+        sum += u32::from(numbers[usize::from(job)]);
+        let over = 4096 < sum;
+        if over {
             return 4097;
         }
     }
@@ -83,11 +85,7 @@ pub fn capped_sum(numbers: &[u16; 24], plan: &[u8]) -> u32
     if 4096 < plan.len() {
         return long_sum(numbers, plan);
     }
-    let sum = short_sum(numbers, plan);
-    if sum < 4097 {
-        return sum;
-    }
-    4097
+    short_sum(numbers, plan).min(4097)
 }
 
 // A job's norm by way of a rule with these jobs after it; 0 is none yet.
@@ -97,66 +95,39 @@ fn rule_norm(norms: &[u16; 24], after: &[u8]) -> u16
     ensures { result ≡ min 513 (norm_by norms.now after.now) }
 {
     let mut sum: u32 = 1;
-    let mut k = 0;
-    while k < after.len() {
-        let job = after[k] as usize;
-        k += 1;
-        let n = norm_of(norms, job);
+    for &job in after {
+        let n = u32::from(norms[usize::from(job)]);
         if n == 0 {
             return 0;
         }
         sum += n;
     }
-    if sum < MOST {
-        return sum as u16;
-    }
-    MOST as u16
+    sum.min(MOST) as u16
 }
 
 // One round: each job's least norm by way of its rules.
-fn round(jobs: usize, rules: &[u8], old: &[u16; 24]) -> [u16; 24]
-    requires { GoodList jobs rules.now }
-    ensures { IsRound (table_of jobs rules.now) old.now result }
+fn round(rules: &Rules, old: &[u16; 24]) -> [u16; 24]
+    ensures { IsRound (table_of rules.now.jobs rules.now.bytes.now) old.now result }
 {
     let mut new = [0u16; 24];
-    let total = rules::rule_total(rules);
-    let mut i = 0;
-    while i < total {
-        let job = rules::rule_job(rules, i);
-        let v = rule_norm(old, rules::rule_after(rules, i));
-        new[job] = lesser_of(new[job], v);
-        i += 1;
+    for i in 0..rules.count() {
+        let job = rules.job(i);
+        new[job] = lesser_of(new[job], rule_norm(old, rules.after(i)));
     }
     new
 }
 
-fn equal(a: &[u16; 24], b: &[u16; 24]) -> bool
-    ensures { result ≡ true → (k : ℕ) → k < 24 → get_or a.now k 0 ≡ get_or b.now k 0 }
-{
-    let mut i = 0;
-    while i < 24 {
-        if a[i] != b[i] {
-            return false;
-        }
-        i += 1;
-    }
-    true
-}
-
 // The norms by rounds, until one changes nothing.
-pub fn norms(jobs: usize, rules: &[u8]) -> [u16; 24]
-    requires { GoodList jobs rules.now }
-    ensures { NormArray (table_of jobs rules.now) result }
+pub fn norms_of(rules: &Rules) -> [u16; 24]
+    ensures { NormArray (table_of rules.now.jobs rules.now.bytes.now) result }
 {
     let mut known = [0u16; 24];
-    let mut left = jobs;
-    while 0 < left {
-        let next = round(jobs, rules, &known);
-        if equal(&known, &next) {
+    for _ in 0..rules.jobs {
+        let next = round(rules, &known);
+        if known == next {
             return known;
         }
         known = next;
-        left -= 1;
     }
     known
 }

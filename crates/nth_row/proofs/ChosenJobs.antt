@@ -10,8 +10,9 @@ use Rattle.catalogue.specs.Catalogue.{follows, begun, rows_down, rows_of}
 use Rattle.catalogue.proofs.BegunRows.{by_order, begun_place}
 use Rattle.catalogue.proofs.WeightedRows.{follows_left}
 use Rattle.row_counts.specs.Counts.{Counts, follow_count, total}
-use Rattle.row_counts.proofs.CountedRows.{follow_none, follow_heavy, followers_are, begun_total, rows_total, total_at}
-use Rattle.nth_row.specs.Rows.{Chosen, IsRow}
+use Rattle.row_counts.proofs.CountedRows.{follow_none, follow_heavy, followers_are, begun_total, rows_total, total_at, total_take}
+use Rattle.nth_row.specs.Rows.{Chosen}
+use Rattle.nth_row.specs.declared.Choice.{Choice}
 
 -- THE JOBS PASSED OVER: the rows that begin with them come before the index, and those that begin with the others reach it
 pub record Passing (cs : List ℕ) (v : ℕ) (ws : List ℕ) (index x left : ℕ) : Type 0 where
@@ -19,19 +20,13 @@ pub record Passing (cs : List ℕ) (v : ℕ) (ws : List ℕ) (index x left : ℕ
   pub before : index ≡ total cs v (take x ws) + left
   pub less : left < total cs v (drop x ws)
 
-total_take : (cs : List ℕ) (v : ℕ) (ws : List ℕ) (x : ℕ) → x < length ws → total cs v (take (suc x) ws) ≡ total cs v (take x ws) + follow_count cs v (get_or ws x 0)
-unfolding total
-total_take cs v [] x h = absurd (omega arith)
-total_take cs v (w ∷ ws) zero h = omega arith
-total_take cs v (w ∷ ws) (suc x) h = omega (arith, total_take cs v ws x (omega arith))
-
 module _ (cs : List ℕ) (v : ℕ) (ws : List ℕ) (index : ℕ) where
   pub passing_first : index < total cs v ws → Passing cs v ws index 0 index
   unfolding total
   passing_first h = record { inside = omega arith; before = omega arith; less = h }
 
   module _ (x left : ℕ) (p : Passing cs v ws index x left) (h : x < length ws) (n : ℕ) (is : n ≡ follow_count cs v (get_or ws x 0)) where
-    pub passing_found : left < n → Chosen cs v ws index x left
+    pub passing_found : left < n → Chosen cs v ws index (record { job = x; index = left })
     passing_found l = record { inside = h; there = omega arith; before = p.before }
 
     pub passing_next : n ≤ left → Passing cs v ws index (x + 1) (left - n)
@@ -42,7 +37,13 @@ module _ (cs : List ℕ) (v : ℕ) (ws : List ℕ) (index : ℕ) where
     }
 
 -- THE ROW AT THE INDEX begins with the job chosen
-module _ (ws : List ℕ) (v : ℕ) (cs : List ℕ) (c : Counts ws (suc v) cs) (k x i : ℕ) (h : Chosen cs (suc v) ws k x i) where
+module _ (ws : List ℕ) (v : ℕ) (cs : List ℕ) (c : Counts ws (suc v) cs) (k : ℕ) (d : Choice) (h : Chosen cs (suc v) ws k d) where
+  abbrev x : ℕ
+  x = d.job
+
+  abbrev i : ℕ
+  i = d.index
+
   abbrev w : ℕ
   w = get_or ws x 0
 
@@ -95,37 +96,34 @@ module _ (ws : List ℕ) (weight index : ℕ) where
         omega (arith, r.less, subst (λ (n : ℕ). length (rows_of ws n) ≡ total cs n ws) d (rows_total ws (left - 1) cs (fewer cs c (suc (left - 1)) (omega (arith, r.fits)))))
 
     -- the job chosen has a weight, within what is left
-    pub writing_weight : (cs : List ℕ) → Counts ws (weight + 1) cs → 0 < left → (x i : ℕ) → Chosen cs left ws k x i → (1 ≤ get_or ws x 0) × (get_or ws x 0 ≤ left)
-    writing_weight cs c h x i d =
+    pub writing_weight : (cs : List ℕ) → Counts ws (weight + 1) cs → 0 < left → (d : Choice) → Chosen cs left ws k d → (1 ≤ get_or ws d.job 0) × (get_or ws d.job 0 ≤ left)
+    writing_weight cs c h d chosen =
         let e : left ≡ suc (left - 1) = omega arith in
-        let f = some_weight ws (left - 1) cs (fewer cs c (suc (left - 1)) (omega (arith, r.fits))) k x i (subst (λ (n : ℕ). Chosen cs n ws k x i) e d) in
+        let f = some_weight ws (left - 1) cs (fewer cs c (suc (left - 1)) (omega (arith, r.fits))) k d (subst (λ (n : ℕ). Chosen cs n ws k d) e chosen) in
         (f.0, omega (arith, f.1))
 
-    pub writing_next : (cs : List ℕ) → Counts ws (weight + 1) cs → 0 < left → (x i : ℕ) → Chosen cs left ws k x i →
-        Writing ws weight index (set row len x) (len + 1) (left - get_or ws x 0) i
-    writing_next cs c h x i d =
+    pub writing_next : (cs : List ℕ) → Counts ws (weight + 1) cs → 0 < left → (d : Choice) → Chosen cs left ws k d →
+        Writing ws weight index (set row len d.job) (len + 1) (left - get_or ws d.job 0) d.index
+    writing_next cs c h d chosen =
         let v : ℕ = left - 1 in
         let e : left ≡ suc v = omega arith in
         let a = fewer cs c (suc v) (omega (arith, r.fits)) in
-        let f : Chosen cs (suc v) ws k x i = subst (λ (n : ℕ). Chosen cs n ws k x i) e d in
+        let f : Chosen cs (suc v) ws k d = subst (λ (n : ℕ). Chosen cs n ws k d) e chosen in
         record {
-          size = length-set row len x ∙ r.size;
-          fits = omega (arith, r.fits, some_weight ws v cs a k x i f);
-          less = subst (λ (n : ℕ). i < length (rows_of ws (n - get_or ws x 0))) (sym e) (chosen_less ws v cs a k x i f);
-          is = longer (subst (λ (n : ℕ). get_or (rows_of ws n) k [] ≡ x ∷ get_or (rows_of ws (n - get_or ws x 0)) i []) (sym e) (chosen_is ws v cs a k x i f));
+          size = length-set row len d.job ∙ r.size;
+          fits = omega (arith, r.fits, some_weight ws v cs a k d f);
+          less = subst (λ (n : ℕ). d.index < length (rows_of ws (n - get_or ws d.job 0))) (sym e) (chosen_less ws v cs a k d f);
+          is = longer (subst (λ (n : ℕ). get_or (rows_of ws n) k [] ≡ d.job ∷ get_or (rows_of ws (n - get_or ws d.job 0)) d.index []) (sym e) (chosen_is ws v cs a k d f));
         }
       where
-        longer : get_or (rows_of ws left) k [] ≡ x ∷ get_or (rows_of ws (left - get_or ws x 0)) i [] →
-            take (len + 1) (set row len x) ++ get_or (rows_of ws (left - get_or ws x 0)) i [] ≡ get_or (rows_of ws weight) index []
+        longer : get_or (rows_of ws left) k [] ≡ d.job ∷ get_or (rows_of ws (left - get_or ws d.job 0)) d.index [] →
+            take (len + 1) (set row len d.job) ++ get_or (rows_of ws (left - get_or ws d.job 0)) d.index [] ≡ get_or (rows_of ws weight) index []
         longer q =
-            let rest : List ℕ = get_or (rows_of ws (left - get_or ws x 0)) i [] in
-            ap (λ (n : ℕ). take n (set row len x) ++ rest) (add-one len) ∙ ap (λ (l : List ℕ). l ++ rest) (take-suc-set row len x (omega (arith, r.fits, r.size)))
-            ∙ append_assoc (take len row) (x ∷ []) rest ∙ ap (λ (l : List ℕ). take len row ++ l) (sym q) ∙ r.is
+            let rest : List ℕ = get_or (rows_of ws (left - get_or ws d.job 0)) d.index [] in
+            ap (λ (n : ℕ). take n (set row len d.job) ++ rest) (add-one len) ∙ ap (λ (l : List ℕ). l ++ rest) (take-suc-set row len d.job (omega (arith, r.fits, r.size)))
+            ∙ append_assoc (take len row) (d.job ∷ []) rest ∙ ap (λ (l : List ℕ). take len row ++ l) (sym q) ∙ r.is
 
     -- nothing is left
-    pub writing_end : left ≡ 0 → IsRow (rows_of ws weight) index row len
-    writing_end z = record {
-      size = r.size;
-      short = omega (arith, r.fits);
-      is = sym (append-nil (take len row)) ∙ ap (λ (l : List ℕ). take len row ++ l) (sym (ap (λ (n : ℕ). get_or (rows_of ws n) k []) z ∙ nothing_left ws k)) ∙ r.is;
-    }
+    pub writing_end : left ≡ 0 → take len row ≡ get_or (rows_of ws weight) index []
+    writing_end z =
+        sym (append-nil (take len row)) ∙ ap (λ (l : List ℕ). take len row ++ l) (sym (ap (λ (n : ℕ). get_or (rows_of ws n) k []) z ∙ nothing_left ws k)) ∙ r.is

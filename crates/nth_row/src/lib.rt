@@ -1,82 +1,61 @@
 // The row of a weight at an index, in dictionary order: job by job, passing over the rows that begin with lesser ones.
 #![tactic(auto)]
 
-ghost use Rattle.std.specs.Prelude.{◌≡◌, ◌+◌, ◌≤◌, ◌<◌, length, take};
+pub mod row;
+
+ghost use Rattle.std.specs.Prelude.{◌↔◌, ◌+◌, ◌≤◌, ◌<◌, IsNone, IfSome, length};
 ghost use Rattle.catalogue.specs.Catalogue.{rows_of};
 ghost use Rattle.row_counts.specs.Counts.{total, Counts};
 ghost use Rattle.nth_row.specs.Rows.{Chosen, IsRow};
 
+use crate::row::Row;
 use row_counts::followers;
 
 // The first job of a row, and the index of what follows it among the rows that can.
-#[derive(Drop)]
-pub struct Choice {
-    pub job: usize,
-    pub index: u64,
-}
-
-// A row of at most 12 jobs.
-#[derive(Drop)]
-pub struct Row {
-    pub jobs: [u8; 12],
-    pub len: usize,
+#[derive(Clone, Copy)]
+struct Choice {
+    job: usize,
+    index: u64,
 }
 
 // The first job of the row of the weight `whole` at an index.
-fn choose(
-    jobs: usize,
-    weights: &[usize; 24],
-    counts: &[u64; 13],
-    whole: usize,
-    index: u64,
-) -> Choice
-    requires jobs_bound { (jobs ≤ 24) × (length weights.now ≡ 24) × (whole ≤ 12) }
-    requires index_bound { index < total counts.now whole (take jobs weights.now) }
-    ensures { Chosen counts.now whole (take jobs weights.now) index result.job result.index }
+fn choose(weights: &[usize], counts: &[u64; 13], whole: usize, index: u64) -> Choice
+    requires small { whole ≤ 12 }
+    requires inside { index < total counts.now whole weights.now }
+    ensures { Chosen counts.now whole weights.now index result }
 {
     let mut left = index;
-    let mut x = 0;
-    while x < jobs {
-        let passed = followers(counts, whole, weights[x]);
+    for (job, &weight) in weights.iter().enumerate() {
+        let passed = followers(counts, whole, weight);
         if left < passed {
-            return Choice {
-                job: x,
-                index: left,
-            };
+            return Choice { job, index: left };
         }
         left -= passed;
-        x += 1;
     }
-    Choice { job: 0, index: 0 }
+    unreachable!()
 }
 
-// The row of a weight at an index.
-pub fn nth_row(
-    jobs: usize,
-    weights: &[usize; 24],
-    counts: &[u64; 13],
-    weight: usize,
-    index: u64,
-) -> Row
-    requires jobs_bound { (jobs ≤ 24) × (length weights.now ≡ 24) × (weight ≤ 12) }
-    requires counts { Counts (take jobs weights.now) (weight + 1) counts.now }
-    requires index_in_bounds { index < length (rows_of (take jobs weights.now) weight) }
-    ensures { IsRow (rows_of (take jobs weights.now) weight) index result.jobs result.len }
+// The row of a weight at an index, if there are so many.
+pub fn nth_row(weights: &[usize], counts: &[u64; 13], weight: usize, index: u64) -> Option<Row>
+    requires few { (length weights.now ≤ 24) × (weight ≤ 12) }
+    requires counted { Counts weights.now (weight + 1) counts.now }
+    ensures none { IsNone result ↔ (length (rows_of weights.now weight) ≤ index) }
+    ensures row { IfSome result (IsRow (rows_of weights.now weight) index) }
 {
-    let mut row = [0u8; 12];
+    if counts[weight] <= index {
+        return None;
+    }
+    let mut jobs = [0; 12];
     let mut len = 0;
     let mut left = weight;
     let mut k = index;
+    // each job takes its own weight off what is left
     while 0 < left {
-        let choice = choose(jobs, weights, counts, left, k);
-        let job = choice.job;
-        row[len] = job as u8;
+        let choice = choose(weights, counts, left, k);
+        jobs[len] = choice.job as u8;
         len += 1;
-        left -= weights[job];
+        left -= weights[choice.job];
         k = choice.index;
     }
-    Row {
-        jobs: row,
-        len: len,
-    }
+    Some(Row { jobs, len })
 }

@@ -1,4 +1,3 @@
 -- Laws of the order of jobs.
-pub mod Shift
 pub mod Insertion
 pub mod OrderedJobs

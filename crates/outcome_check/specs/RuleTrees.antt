@@ -47,9 +47,3 @@ pub record EmptySlot (rs slots : List ℕ) (i slot : ℕ) : Type 0 where
   pub rest : ℕ
   pub way : Way slots (first_slot (rule_at rs i)) (first_rest (rule_at rs i)) slot rest
   pub none : (e : ℕ) → Kept rs slots e → SameStart (rule_at rs e) (rule_at rs i) → ⊥
-
--- the kept rule that begins as rule i, or i itself and the slot for it
-pub record Finds (rs slots : List ℕ) (i rule slot : ℕ) : Type 0 where
-  pub within : rule ≤ i
-  pub found : rule < i → SameStart (rule_at rs rule) (rule_at rs i)
-  pub free : rule ≡ i → EmptySlot rs slots i slot

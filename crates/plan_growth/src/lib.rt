@@ -1,22 +1,18 @@
 // The call that tells whether a plan is finite or endless, and how many jobs it can reach.
 #![tactic(auto)]
 
+ghost use Rattle.answer.specs.Answer.{answered};
 ghost use Rattle.plan_growth.specs.GrowthCalls.{Grown};
 
-use answer::or_else;
-use refusal::plan_refusal;
-use table::rules_of;
+use answer::Refusal;
 
 // Twice the number of jobs that the plan can reach, and one more if it is endless.
-pub fn plan_growth(image: &[u8], plan: &[u8]) -> i32
-    ensures { Grown image.now plan.now result }
+pub fn growth(image: &[u8], plan: &[u8]) -> Result<u16, Refusal>
+    ensures { Grown image.now plan.now (answered result) }
 {
-    let table = table::load(image);
-    let norms = table.norms;
-    let refusal = or_else(table.refusal, plan_refusal(table.jobs, &norms, plan));
-    if refusal != 0 {
-        return answer::refused(refusal);
-    }
-    let growth = growing::growth(table.jobs, rules_of(&table.rules, table.end), plan);
-    answer::result(growth as usize)
+    let held = table::read(image)?;
+    let table = held.normed();
+    refusal::check_plan(&table, plan)?;
+    let growth = growing::growth_of(&table.list(), plan);
+    Ok(u16::from(growth))
 }

@@ -15,14 +15,16 @@ use Rattle.bpa.proofs.Norm.GoodTable.{finite_good}
 use Rattle.rules.specs.Places.{rule_at, table_of}
 use Rattle.refusal.specs.Refusals.{Closed}
 use Rattle.refusal.proofs.TableRefusals.{finite}
-use Rattle.facts.specs.Facts.{table_by}
+use Rattle.facts.proofs.TableFacts.{tables}
+use Rattle.fingerprints.specs.declared.Prints.{Prints}
+use Rattle.rule_filter.specs.declared.Pair.{Pair}
 use Rattle.rule_filter.specs.RuleFilter.{MayAgree}
 use Rattle.remainders.proofs.RemainderNorms.{row_looks, row_norm, row_over, remainder_norm, remainder_over, remainder_sum}
 use Rattle.promises.specs.Remainders as promised
 
 pub rows_normed : promised.RowsNormed
-unfolding promised.RowsNormed table_by
-rows_normed rs sums next facts i t h = row_norm (row_looks t.list t.good t.row_norms) i h
+unfolding promised.RowsNormed
+rows_normed facts i h = let t = tables facts in row_norm (row_looks t.list t.good t.row_norms) i h
 
 pub remainders_normed : promised.RemaindersNormed
 unfolding promised.RemaindersNormed
@@ -59,8 +61,8 @@ unequal_remainders jobs rs sums waiting gap r s v w l h k a b n = (told, apart)
     differ : get_or sums r 0 ≡ get_or sums s 0 + gap → ⊥
     differ e = n (omega (arith, a.is, b.is, e))
 
-    told : (prints : List ℕ) (value power : ℕ) (out : Bool) → MayAgree rs sums prints gap value power r s out → out ≡ false
-    told prints value power out m = by_test out (λ yes. absurd (differ (m.norm yes))) (λ no. no)
+    told : (prints : Prints) (pair : Pair) (out : Bool) → pair.gap ≡ gap → MayAgree rs sums prints pair r s out → out ≡ false
+    told prints pair out same m = by_test out (λ yes. absurd (differ (omega (arith, same, m.norm yes)))) (λ no. no)
 
     apart : (R : List ℕ → List ℕ → Type 0) → AnyBisimulation (table_of jobs rs) R → R (rule_at rs r).after ((rule_at rs s).after ++ waiting) → ⊥
     apart R c related =

@@ -7,15 +7,18 @@ use Rattle.bpa.specs.Norms.{Fewest}
 use Rattle.bpa.specs.Bisimilar.{AnyBisimulation}
 use Rattle.rules.specs.Places.{rule_at, rule_count, table_of}
 use Rattle.refusal.specs.Refusals.{Closed}
-use Rattle.facts.specs.Facts.{table_by, Tables}
+use Rattle.facts.specs.declared.Facts.{Facts}
+use Rattle.facts.specs.Columns.{bytes_in, table_by}
+use Rattle.fingerprints.specs.declared.Prints.{Prints}
 use Rattle.remainders.specs.Remainders.{LooksUp, LookedUp}
+use Rattle.rule_filter.specs.declared.Pair.{Pair}
 use Rattle.rule_filter.specs.RuleFilter.{MayAgree}
 
 -- the numbers that the rounds are given: each is the fewest moves from the row of its rule to the empty plan
 unfoldable pub RowsNormed : Type 0
 RowsNormed =
-    (rs sums next facts : List ℕ) (i : ℕ) → Tables rs sums next facts → i < rule_count rs →
-    Fewest (table_by facts rs) (rule_at rs i).after (get_or sums i 0)
+    (facts : Facts) (i : ℕ) → i < rule_count (bytes_in facts) →
+    Fewest (table_by facts) (rule_at (bytes_in facts) i).after (get_or facts.sums i 0)
 
 -- the number that is looked up, with the norm of the jobs that wait: it is the fewest moves from the remainder to the empty plan
 unfoldable pub RemaindersNormed : Type 0
@@ -35,5 +38,5 @@ unfoldable pub UnequalRemainders : Type 1
 UnequalRemainders =
     (jobs : ℕ) (rs sums waiting : List ℕ) (gap r s v w : ℕ) → LooksUp jobs rs sums waiting gap → r < rule_count rs → s < rule_count rs →
     LookedUp sums 0 r v → LookedUp sums gap s w → (v ≡ w → ⊥) →
-    ((prints : List ℕ) (value power : ℕ) (out : Bool) → MayAgree rs sums prints gap value power r s out → out ≡ false)
+    ((prints : Prints) (pair : Pair) (out : Bool) → pair.gap ≡ gap → MayAgree rs sums prints pair r s out → out ≡ false)
     × ((R : List ℕ → List ℕ → Type 0) → AnyBisimulation (table_of jobs rs) R → R (rule_at rs r).after ((rule_at rs s).after ++ waiting) → ⊥)

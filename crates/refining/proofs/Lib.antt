@@ -1,4 +1,3 @@
--- Laws of the rounds.
-pub mod Primes
+-- Laws of rounds.
 pub mod AgreeingRows
 pub mod RoundLaws

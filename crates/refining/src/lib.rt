@@ -1,133 +1,111 @@
 // Decompositions, refined in rounds until no prime is new. The area has two halves of 24 rows of 512 bytes: the old rows and the new ones.
 #![tactic(auto)]
 
-ghost use Rattle.std.specs.Prelude.{◌≡◌, ◌≤◌, length};
-ghost use Rattle.bpa.specs.Norms.{norms, Good};
-ghost use Rattle.rules.specs.Places.{rule_count};
-ghost use Rattle.rows.specs.Region.{row, old_half, new_half};
-ghost use Rattle.facts.specs.Facts.{jobs_in, table_by, Tables};
+ghost use Rattle.std.specs.Prelude.{◌≡◌, ◌≤◌, ◌<◌, length};
+ghost use Rattle.rows.specs.Region.{row};
+ghost use Rattle.rows.specs.Rows.{rows_of};
+ghost use Rattle.facts.specs.Columns.{jobs_in};
 ghost use Rattle.fingerprints.specs.Fingerprints.{KnownPrints};
 ghost use Rattle.new_rows.specs.NewRows.{RowsReady};
 ghost use Rattle.refining.specs.Rounds.{PrimesFound, Rounded, FinalIn};
 
-use area::wide;
-use facts::{first_rule, job_count};
+use facts::Facts;
+use fingerprints::Prints;
 use halves::{first_rows, keep};
-use new_rows::new_rows;
-use rows::alone;
-use rules::rule_total;
+use new_rows::{Round, new_rows};
+use rows::Rows;
+
+// A job with so many different rules has many.
+const MANY: usize = 12;
 
 // Whether some job is prime in the new rows and not in the old ones.
-fn new_prime(facts: &[u64; 121], old: &[u16; 24], new: &[u16; 24], area: &[u8]) -> bool
-    requires { (jobs_in facts.now ≤ 24) × (length area.now ≡ 24576) }
-    ensures { PrimesFound (jobs_in facts.now) (row old.now (old_half area.now)) (row new.now (new_half area.now)) result }
+fn new_prime(jobs: usize, old: &Rows, new: &Rows) -> bool
+    requires { jobs ≤ 24 }
+    ensures { PrimesFound jobs (rows_of old.now) (rows_of new.now) result }
 {
-    let jobs = job_count(facts);
-    let mut j = 0;
-    while j < jobs {
-        if alone(&area[12288..24576], new, j) {
-            if alone(&area[0..12288], old, j) {
-                j += 1;
-                continue;
-            }
+    for job in 0..jobs {
+        if new.is_alone(job) && !old.is_alone(job) {
             return true;
         }
-        j += 1;
     }
     false
 }
 
 // One round: new rows from the old ones. It says whether a prime is new.
-fn round(
-    rules: &[u8],
-    facts: &[u64; 121],
-    sums: &[u16; 252],
-    next: &[u8; 252],
-    many: &[u8; 24],
-    old: &[u16; 24],
-    new: &mut [u16; 24],
-    moved: &mut [u8; 24],
-    area: &mut [u8],
-    prints: &mut [u32; 300],
+fn refine_once(
+    facts: &Facts,
+    many: &[bool; 24],
+    old: &Rows,
+    bytes: &mut [u8],
+    round: &mut Round,
 ) -> bool
-    requires rows_ready { RowsReady rules.now facts.now sums.now next.now old.now new.old moved.old area.old }
-    requires known_prints { KnownPrints (jobs_in facts.now) (row old.now (old_half area.old)) moved.old prints.old }
-    ensures { Rounded rules.now facts.now old.now new.new moved.new area.old area.new result × KnownPrints (jobs_in facts.now) (row new.new (new_half area.new)) moved.new prints.new }
+    requires rows_ready { RowsReady facts.now old.now.lens.now old.now.bytes.now round.old.lens round.old.moved bytes.old }
+    requires known_prints { KnownPrints (jobs_in facts.now) (rows_of old.now) round.old.moved round.old.prints }
+    ensures rounded { Rounded facts.now old.now.lens.now old.now.bytes.now round.new.lens round.new.moved bytes.new result }
+    ensures known_prints { KnownPrints (jobs_in facts.now) (row round.new.lens bytes.new) round.new.moved round.new.prints }
 {
-    new_rows(
-        rules, facts, sums, next, many, old, new, moved, area, prints,
-    );
-    new_prime(facts, old, new, area)
+    new_rows(facts, many, old, bytes, round);
+    let new = Rows {
+        bytes: &*bytes,
+        lens: &round.lens,
+    };
+    new_prime(facts.table.jobs, old, &new)
 }
 
-// Whether a chain of rules is long.
-fn long_chain(next: &[u8; 252], start: usize, total: usize) -> bool
-    requires { total ≤ 252 }
+// Whether a job has many different rules.
+fn has_many_rules(facts: &Facts, job: usize) -> bool
+    requires { job < 24 }
 {
-    let mut k = start;
-    let mut n: usize = 0;
-    while n < 12 {
-        n += 1;
+    let total = facts.table.list().count();
+    let mut k = facts.first_rule(job);
+    for _ in 0..MANY {
         if total <= k {
             return false;
         }
-        k = wide(next[k]);
+        k = usize::from(facts.next[k]);
     }
     true
 }
 
-// A mark for each job that has so many different rules that fingerprints of what they leave are worth their making. No answer depends on it.
-fn many_rules(rules: &[u8], facts: &[u64; 121], next: &[u8; 252]) -> [u8; 24]
-    requires { (jobs_in facts.now ≤ 24) × (rule_count rules.now ≤ 252) }
-{
-    let jobs = job_count(facts);
-    let total = rule_total(rules);
-    let mut many = [0u8; 24];
-    let mut j = 0;
-    while j < jobs {
-        let job = j;
-        j += 1;
-        if long_chain(next, first_rule(facts, job), total) {
-            many[job] = 1;
-        }
+// A mark for each job with so many rules that fingerprints of what they leave are worth their making. No answer depends on it.
+fn many_rules(facts: &Facts) -> [bool; 24] {
+    let mut many = [false; 24];
+    for job in 0..facts.table.jobs {
+        many[job] = has_many_rules(facts, job);
     }
     many
 }
 
 // The rows that the rounds end with, in the first half of the area: jobs as rows of primes. It gives their lengths.
-pub fn refine(
-    rules: &[u8],
-    facts: &[u64; 121],
-    sums: &[u16; 252],
-    next: &[u8; 252],
-    area: &mut [u8],
-) -> [u16; 24]
-    requires tables { Tables rules.now sums.now next.now facts.now }
-    requires good { Good (table_by facts.now rules.now) (norms (table_by facts.now rules.now)) }
-    requires area_len { length area.old ≡ 24576 }
-    ensures { FinalIn rules.now facts.now result area.new }
+pub fn refine(facts: &Facts, area: &mut [u8]) -> [u16; 24]
+    requires { length area.old ≡ 24576 }
+    ensures { FinalIn facts.now result area.new }
 {
-    let jobs = job_count(facts);
-    let many = many_rules(rules, facts, next);
-    let mut old = first_rows(rules, facts, sums, next, &mut area[12288..24576]);
-    let mut new = old;
-    let mut moved = [1u8; 24];
-    let mut prints = [0u32; 300];
-    keep(jobs, &new, &moved, area);
-    while round(
-        rules,
-        facts,
-        sums,
-        next,
-        &many,
-        &old,
-        &mut new,
-        &mut moved,
-        area,
-        &mut prints,
-    ) {
-        keep(jobs, &new, &moved, area);
-        old = new;
+    let many = many_rules(facts);
+    let (old, new) = area.split_at_mut(12288);
+    let mut round = Round {
+        lens: first_rows(facts, new),
+        moved: [true; 24],
+        prints: Prints {
+            values: [0; 24],
+            powers: [0; 24],
+            rules: [0; 252],
+        },
+    };
+    'rounds: loop {
+        let lens = round.lens;
+        let rows = Rows {
+            bytes: &*new,
+            lens: &lens,
+        };
+        keep(facts.table.jobs, &rows, &round.moved, old);
+        let rows = Rows {
+            bytes: &*old,
+            lens: &lens,
+        };
+        let found = refine_once(facts, &many, &rows, new, &mut round);
+        if !found {
+            return lens;
+        }
     }
-    old
 }

@@ -34,9 +34,6 @@ module _ {jobs : ℕ} {rs sums waiting : List ℕ} {behind : ℕ} (l : LooksUp j
   pub nothing_waits : LooksUp jobs rs sums [] 0
   nothing_waits = row_looks l.list l.good l.row_norms
 
-  pub row_small : (i : ℕ) → i < rule_count rs → get_or sums i 0 + behind < 65536
-  row_small i h = omega (arith, (l.row_norms.at i h).small, l.small)
-
   -- equal rules have equal numbers
   pub alike : (i k : ℕ) → i < k → k < rule_count rs → rule_at rs i ≡ rule_at rs k → get_or sums i 0 ≡ get_or sums k 0
   alike i k b h same =

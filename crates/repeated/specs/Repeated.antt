@@ -12,6 +12,9 @@ pub record Repeated (rs : List ℕ) (i : ℕ) : Type 0 where
 pub record RepeatsMarked (rs marks : List ℕ) : Type 0 where
   pub repeated : (i : ℕ) → i < rule_count rs → 0 < get_or marks i 0 → Repeated rs i
 
+pub record MarksRepeats (rs : List ℕ) (marks : List Bool) : Type 0 where
+  pub repeated : (i : ℕ) → i < rule_count rs → get_or marks i false ≡ true → Repeated rs i
+
 -- the eight bytes of a rule, and the bucket that they belong to
 abbrev pub place_at : (rules : List ℕ) → (i : ℕ) → List ℕ
 place_at rs i = take 8 (drop (8 * i) rs)

@@ -4,30 +4,29 @@
 
 ghost use Rattle.std.specs.Prelude.{◌≡◌, ◌≤◌, ◌<◌, length};
 ghost use Rattle.rules.specs.Places.{rule_count};
-ghost use Rattle.repeated.specs.Repeated.{RepeatsMarked, place_at, IsBucket, Stands};
+ghost use Rattle.repeated.specs.Repeated.{RepeatsMarked, MarksRepeats, place_at, IsBucket, Stands};
 
-use area::wide;
-use rows::same_row;
 use rules::rule_total;
 
 // The eight bytes of a rule.
+#[tactic(auto, unfolding(rules::specs::Places::rule_count))]
 pub fn place(rules: &[u8], i: usize) -> &[u8]
     requires { i < rule_count rules.now }
     ensures { result.now ≡ place_at rules.now i }
 {
-    let start = 8 * i;
-    let end = start + 8;
-    &rules[start..end]
+    &rules[8 * i..][..8]
 }
 
 // A number below 64 for the bytes of a rule. Equal rules have equal ones, and few others do.
+#[tactic(auto, unfolding(crate::specs::Repeated::bucket_of))]
 pub fn bucket(place: &[u8]) -> usize
     requires { length place.now ≡ 8 }
     ensures { IsBucket place.now result }
 {
-    let head = wide(place[0]) + 5 * (wide(place[1]) + wide(place[7])) + 7 * wide(place[2]);
-    let front = 11 * wide(place[3]) + 23 * wide(place[4]);
-    let back = 37 * wide(place[5]) + 47 * wide(place[6]);
+    let move_bytes = usize::from(place[1]) + usize::from(place[7]);
+    let head = usize::from(place[0]) + 5 * move_bytes + 7 * usize::from(place[2]);
+    let front = 11 * usize::from(place[3]) + 23 * usize::from(place[4]);
+    let back = 37 * usize::from(place[5]) + 47 * usize::from(place[6]);
     (head + front + back) % 64
 }
 
@@ -38,39 +37,36 @@ pub fn stands(rules: &[u8], links: &[u8; 252], last: usize, i: usize) -> bool
     ensures { Stands rules.now links.now last i result }
 {
     let mut k = last;
+    // back along the links of the bucket
     while k < i {
-        let at = k;
-        if same_row(place(rules, at), place(rules, i)) {
+        if place(rules, k) == place(rules, i) {
             return true;
         }
-        k = wide(links[at]);
-        if at <= k {
+        let before = usize::from(links[k]);
+        if k <= before {
             return false;
         }
+        k = before;
     }
     false
 }
 
-// A mark for each rule that an earlier one is equal to.
-pub fn repeated_rules(rules: &[u8]) -> [u8; 252]
+// Marks for the rules that an earlier one is equal to.
+pub fn repeats(rules: &[u8]) -> [bool; 252]
     requires { rule_count rules.now ≤ 252 }
-    ensures { RepeatsMarked rules.now result }
+    ensures { MarksRepeats rules.now result }
 {
-    let total = rule_total(rules);
-    let mut marks = [0u8; 252];
+    let mut marks = [false; 252];
     let mut links = [255u8; 252];
     let mut last = [255u8; 64];
-    let mut i = 0;
-    while i < total {
-        let at = i;
-        i += 1;
+    for at in 0..rule_total(rules) {
         let b = bucket(place(rules, at));
-        if stands(rules, &links, wide(last[b]), at) {
-            marks[at] = 1;
-            continue;
+        if stands(rules, &links, usize::from(last[b]), at) {
+            marks[at] = true;
+        } else {
+            links[at] = last[b];
+            last[b] = at as u8;
         }
-        links[at] = last[b];
-        last[b] = at as u8;
     }
     marks
 }

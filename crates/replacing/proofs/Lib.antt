@@ -2,3 +2,4 @@
 pub mod ReplacedPlaces
 pub mod NoList
 pub mod ListSources
+pub mod ListedTables

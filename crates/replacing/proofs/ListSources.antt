@@ -1,5 +1,4 @@
--- A TABLE UNDER A LIST IS A SOURCE OF TABLES: refused as the table is, then by the list; once both pass, its bytes are those of the table with
--- their moves replaced, and its norms are the table's. Assumes nothing.
+-- A TABLE THAT IS HELD, UNDER A LIST: its bytes are those of the table with their moves replaced, and its norms are the table's. Assumes nothing.
 use mathlib.Core.Path.{◌≡◌, sym, ap, subst, ◌∙◌}
 use mathlib.Core.List.{List, [], ◌++◌, map}
 use Prim.Native.Nat.{ℕ, ◌*◌, ◌/◌, ◌≤◌}
@@ -7,19 +6,17 @@ use native.Mathlib.Omega.{arith}
 use lib.ListN.{length, get_or, take, drop, length-append, length-drop, drop_of_length-le}
 use lib.Seq.{length-take-le, take_at}
 use Rattle.bpa.specs.Plans.{Rule, Table}
-use Rattle.bpa.specs.Norms.{norms, Good}
-use Rattle.answer.specs.Refusals.{or_else}
-use Rattle.answer.proofs.RefusalChains.{chain, neither}
 use Rattle.rules.specs.Places.{places_good, rules_in, rule_count, table_of}
 use Rattle.rules.specs.Lists.{GoodList}
-use Rattle.norm.specs.NormArrays.{ExactNorms, GoodNorms}
-use Rattle.table.specs.Tables.{Loads}
+use Rattle.norm.specs.NormArrays.{ExactNorms}
+use Rattle.table.specs.Sources.{table_held}
+use Rattle.table.specs.declared.held.HeldTable.{HeldTable}
 use Rattle.alike.specs.Alike.{Pair, replace, replaced_rule, replaced}
-use Rattle.alike.proofs.ReplacedTables.{norms_replaced, good_replaced}
-use Rattle.alike_list.specs.AlikeLists.{alike_pairs, alike_refusal}
-use Rattle.alike_list.specs.PairArrays.{counts_as, HoldsPairs, ReadsList}
+use Rattle.alike.proofs.ReplacedTables.{norms_replaced}
+use Rattle.alike_list.specs.AlikeLists.{alike_pairs}
+use Rattle.alike_list.specs.PairArrays.{counts_as, HoldsPairs}
 use Rattle.replacing.specs.ReplacedMoves.{with_moves}
-use Rattle.replacing.proofs.NoList.{no_refusal, no_replacement}
+use Rattle.replacing.proofs.NoList.{no_replacement}
 use Rattle.replacing.proofs.ReplacedPlaces.{moves_length, moves_front, moves_good, moves_rules}
 
 -- A LIST OF RULES WITH ITS MOVES REPLACED
@@ -55,86 +52,51 @@ module _ (ps : List Pair) (f : ℕ → ℕ) (same : (a : ℕ) → f a ≡ replac
       ap (λ (n : ℕ). rules_in n new) count_same ∙ moves_rules f jobs (replaced_rule ps) rule_moved (rule_count rs) rs room g.places in
       λ i. record { jobs = jobs; rules = rules i }
 
-  new_norms : (ns : List ℕ) → GoodNorms jobs rs ns → GoodNorms jobs new ns
-  new_norms ns h =
-      let t = table_of jobs rs in
-      let e = norms_replaced ps t in
-      record {
-        list = new_list;
-        good = subst (λ (u : Table). Good u (norms u)) (sym new_table) (subst (Good (replaced ps t)) (sym e) (good_replaced ps t (norms t) h.good));
-        exact = subst (λ (u : Table). ExactNorms u ns) (sym new_table)
-            (record { size = h.exact.size; at = λ j. h.exact.at j ∙ ap (λ (l : List ℕ). get_or l j 0) (sym e); few = h.exact.few });
-      }
+-- NO LIST: the table is the same
+pub without_list : (ls : List ℕ) → length ls ≡ 0 → (t : Table) → t ≡ replaced (alike_pairs ls) t
+without_list ls e t =
+    let none : ls ≡ [] = drop_of_length-le ls {i = 0} (omega (arith, e)) in
+    sym (no_replacement t) ∙ ap (λ (x : List ℕ). replaced (alike_pairs x) t) (sym none)
 
--- A TABLE THAT WAS LOADED, under a list
-module _ {f : ℕ} {t : Table} {refusal jobs end : ℕ} {rules ns : List ℕ} (l : Loads f t refusal jobs end rules ns) (ls : List ℕ) where
-  -- no list
-  pub without_list : length ls ≡ 0 → Loads (or_else f (alike_refusal ls)) (replaced (alike_pairs ls) t) refusal jobs end rules ns
-  without_list e =
-      let none : ls ≡ [] = drop_of_length-le ls {i = 0} (omega (arith, e)) in
-      let at : or_else f (alike_refusal ls) ≡ f = ap (λ (x : List ℕ). or_else f (alike_refusal x)) none ∙ no_refusal f in
-      let u : replaced (alike_pairs ls) t ≡ t = ap (λ (x : List ℕ). replaced (alike_pairs x) t) none ∙ no_replacement t in
-      subst (λ (n : ℕ). Loads n (replaced (alike_pairs ls) t) refusal jobs end rules ns) (sym at)
-      (subst (λ (x : Table). Loads f x refusal jobs end rules ns) (sym u) l)
+-- A TABLE THAT IS HELD, with the moves of so many places replaced by what a list's arrays give
+module _ (h : HeldTable) {ps : List Pair} {fs ts : List ℕ} {n : ℕ} (p : HoldsPairs ps fs ts n) {rules' : List ℕ}
+    (e : rules' ≡ with_moves (counts_as fs ts n) (h.end / 8) h.rules ++ drop (8 * (h.end / 8)) h.rules) (size : length h.rules ≡ 2016) where
+  abbrev c : ℕ → ℕ
+  c = counts_as fs ts n
 
-  module _ {pairs n : ℕ} {fs ts : List ℕ} (p : ReadsList ls pairs fs ts n) {r : ℕ} (d : r ≡ or_else refusal pairs) where
-    refusal_is : r ≡ or_else f (alike_refusal ls)
-    refusal_is = d ∙ chain l.refusal_is (λ z. p.refusal_is)
+  abbrev rs : List ℕ
+  rs = take h.end h.rules
 
-    pub list_refused : (r ≡ 0 → ⊥) → Loads (or_else f (alike_refusal ls)) (replaced (alike_pairs ls) t) r jobs end rules ns
-    list_refused h = record { refusal_is = refusal_is; few = l.few; inside = l.inside; size = l.size; holds = λ z. absurd (h z) }
+  whole : length rs ≡ h.end
+  whole = length-take-le h.end h.rules (omega (arith, h.inside, size))
 
-    module _ (z : r ≡ 0) where
-      passed : (refusal ≡ 0) × (pairs ≡ 0)
-      passed = neither refusal pairs (sym d ∙ z)
+  count : rule_count rs ≡ h.end / 8
+  unfolding rule_count
+  count = ap (λ (n : ℕ). n / 8) whole
 
-      arrays_hold : HoldsPairs (alike_pairs ls) fs ts n
-      arrays_hold = p.holds passed.1
+  eights : 8 * (h.end / 8) ≡ h.end
+  eights = omega (arith, h.list.whole, count, whole)
 
-      abbrev c : ℕ → ℕ
-      c = counts_as fs ts n
+  fits : 8 * (h.end / 8) ≤ length h.rules
+  fits = omega (arith, eights, h.inside, size)
 
-      abbrev rs : List ℕ
-      rs = take end rules
+  front : take h.end rules' ≡ with_moves c (rule_count rs) rs
+  front =
+      ap (take h.end) e
+      ∙ take_at (with_moves c (h.end / 8) h.rules) (drop (8 * (h.end / 8)) h.rules) h.end (moves_length c (h.end / 8) h.rules fits ∙ eights)
+      ∙ sym (moves_front c (h.end / 8) h.end h.rules (omega (arith, eights))) ∙ ap (λ (n : ℕ). with_moves c n rs) (sym count)
 
-      good : GoodNorms jobs rs ns
-      good = (l.holds passed.0).good
+  pub table_is : table_of h.jobs (take h.end rules') ≡ replaced ps (table_held h)
+  table_is = ap (table_of h.jobs) front ∙ new_table ps c p.counts h.jobs rs h.list
 
-      whole : length rs ≡ end
-      whole = length-take-le end rules (omega (arith, l.inside, l.size))
+  pub list_stays : GoodList h.jobs (take h.end rules')
+  list_stays = subst (GoodList h.jobs) (sym front) (new_list ps c p.counts h.jobs rs h.list)
 
-      count : rule_count rs ≡ end / 8
-      unfolding rule_count
-      count = ap (λ (n : ℕ). n / 8) whole
-
-      eights : 8 * (end / 8) ≡ end
-      eights = omega (arith, good.list.whole, count, whole)
-
-      fits : 8 * (end / 8) ≤ length rules
-      fits = omega (arith, eights, l.inside, l.size)
-
-      module _ {rules' : List ℕ} (e : rules' ≡ with_moves c (end / 8) rules ++ drop (8 * (end / 8)) rules) where
-        front : take end rules' ≡ with_moves c (rule_count rs) rs
-        front =
-            ap (take end) e
-            ∙ take_at (with_moves c (end / 8) rules) (drop (8 * (end / 8)) rules) end (moves_length c (end / 8) rules fits ∙ eights)
-            ∙ sym (moves_front c (end / 8) end rules (omega (arith, eights))) ∙ ap (λ (n : ℕ). with_moves c n rs) (sym count)
-
-        sized : length rules' ≡ 2016
-        sized =
-            ap length e ∙ length-append (with_moves c (end / 8) rules) (drop (8 * (end / 8)) rules)
-            ∙ omega (arith, moves_length c (end / 8) rules fits, length-drop (8 * (end / 8)) rules, fits, l.size)
-
-        pub list_replaced : Loads (or_else f (alike_refusal ls)) (replaced (alike_pairs ls) t) r jobs end rules' ns
-        list_replaced =
-            let same = arrays_hold.counts in
-            let g = good.list in record {
-              refusal_is = refusal_is;
-              few = l.few;
-              inside = l.inside;
-              size = sized;
-              holds = λ y. record {
-                is = ap (table_of jobs) front ∙ new_table (alike_pairs ls) c same jobs rs g ∙ ap (replaced (alike_pairs ls)) (l.holds passed.0).is;
-                good = subst (λ (x : List ℕ). GoodNorms jobs x ns) (sym front) (new_norms (alike_pairs ls) c same jobs rs g ns good);
-              };
-            }
+  pub norms_stay : ExactNorms (table_of h.jobs (take h.end rules')) h.norms
+  norms_stay =
+      subst (λ (u : Table). ExactNorms u h.norms) (sym table_is)
+      (record {
+        size = h.exact.size;
+        at = λ j. h.exact.at j ∙ ap (λ (l : List ℕ). get_or l j 0) (sym (norms_replaced ps (table_held h)));
+        few = h.exact.few;
+      })

@@ -1,7 +1,9 @@
 -- A LIST OF LENGTH 0 IS NO LIST: the table and the refusals are those without one. Assumes nothing.
-use mathlib.Core.Path.{◌≡◌, ap₂}
-use mathlib.Core.List.{List, []}
+use mathlib.Core.Path.{◌≡◌, refl, ap₂}
+use mathlib.Core.List.{List, [], ◌∷◌}
 use Prim.Native.Nat.{ℕ}
+use native.Mathlib.Omega.{arith}
+use lib.ListN.{length}
 use Rattle.bpa.specs.Plans.{Table}
 use Rattle.answer.specs.Refusals.{or_else}
 use Rattle.answer.proofs.RefusalChains.{then_none}
@@ -16,6 +18,11 @@ use Rattle.alike_list.specs.AlikeTables.{one_plan_alike, two_plans_alike}
 pub no_refusal : (f : ℕ) → or_else f (alike_refusal []) ≡ f
 unfolding or_else alike_refusal pairs_refusal clash_refusal alike_pairs pair_count pairs_in clashes from_twice from_as_to
 no_refusal f = then_none f
+
+pub none_refused : (ls : List ℕ) → length ls ≡ 0 → alike_refusal ls ≡ 0
+unfolding or_else alike_refusal pairs_refusal clash_refusal alike_pairs pair_count pairs_in clashes from_twice from_as_to
+none_refused [] e = refl
+none_refused (x ∷ ls) e = absurd (omega arith)
 
 pub no_replacement : (t : Table) → replaced (alike_pairs []) t ≡ t
 unfolding alike_pairs pair_count pairs_in

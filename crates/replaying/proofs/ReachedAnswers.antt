@@ -14,22 +14,29 @@ use Rattle.replay.proofs.EndsLaws.{last_all, gets_few, gets_all, none_ends, none
 use Rattle.replay.proofs.EndsSay.{whole_said, part_said, place_said}
 use Rattle.replay.proofs.ReplayMeaning.{said}
 use Rattle.reach.specs.Reaches.{Reaches}
+use Rattle.reach.specs.declared.Reach.{Reach}
 use Rattle.following.specs.Followed.{PlanReaches}
 use Rattle.bits.proofs.TrailingBits.{bit_first}
 use Rattle.replaying.specs.Outcomes.{IsOutcome, IsReplay}
 
 module _ (t : Table) (p log : List ℕ) where
   -- from the front of the log on
-  from_front : (low high least : ℕ) → PlanReaches t log p (length log) low high least → Reaches (Ends t p log) (Gets t p log) low high least
-  from_front low high least r = subst (λ (l : List ℕ). Reaches (Ends t p l) (Gets t p l) low high least) (last_all log) r
+  from_front : (reach : Reach) → PlanReaches t log p (length log) reach → Reaches (Ends t p log) (Gets t p log) reach
+  from_front reach r = subst (λ (l : List ℕ). Reaches (Ends t p l) (Gets t p l) reach) (last_all log) r
 
   -- no move is left over, or all are
-  pub least_inside : (low high least : ℕ) → PlanReaches t log p (length log) low high least → least ≤ length log
-  least_inside low high least r = gets_few t p log least (from_front low high least r).got
+  pub least_inside : (reach : Reach) → PlanReaches t log p (length log) reach → reach.least ≤ length log
+  least_inside reach r = gets_few t p log reach.least (from_front reach r).got
 
-  module _ (low high least : ℕ) (reached : PlanReaches t log p (length log) low high least) where
-    r : Reaches (Ends t p log) (Gets t p log) low high least
-    r = from_front low high least reached
+  module _ (reach : Reach) (reached : PlanReaches t log p (length log) reach) where
+    abbrev low : ℕ
+    low = reach.low
+
+    abbrev least : ℕ
+    least = reach.least
+
+    r : Reaches (Ends t p log) (Gets t p log) reach
+    r = from_front reach reached
 
     through : low % 2 ≡ 1 → Ends t p log 0
     through e = (r.low_holds 0 (omega arith)).0 (bit_first low ∙ e)
@@ -37,7 +44,7 @@ module _ (t : Table) (p log : List ℕ) where
     not_through : (low % 2 ≡ 1 → ⊥) → Ends t p log 0 → ⊥
     not_through n e = n (sym (bit_first low) ∙ (r.low_holds 0 (omega arith)).1 e)
 
-    says : (n : ℕ) → IsOutcome (length log) low least n → Says t p log n
+    says : (n : ℕ) → IsOutcome (length log) reach n → Says t p log n
     says n o =
         by_test (eqb (low % 2) 1)
         (λ e. let x = eqb-true (low % 2) 1 e in subst (Says t p log) (sym (o.whole x)) (whole_said t p log (through x)))
@@ -51,9 +58,9 @@ module _ (t : Table) (p log : List ℕ) where
         let y : least ≡ 0 = omega (arith, ltb-false 0 least f) in
         subst (Says t p log) (sym (o.part x y)) (part_said t p log (not_through x) (subst (Gets t p log) y r.got))))
 
-    pub outcome_replays : (n count : ℕ) → count ≡ length log → IsOutcome count low least n → IsReplay t p log n
-    outcome_replays n count e o = record {
-      is = said t p log n (says n (subst (λ (k : ℕ). IsOutcome k low least n) e o));
+    pub outcome_replays : (n : ℕ) → IsOutcome (length log) reach n → IsReplay t p log n
+    outcome_replays n o = record {
+      is = said t p log n (says n o);
       small = o.small;
     }
 

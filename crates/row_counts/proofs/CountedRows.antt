@@ -3,11 +3,10 @@ use mathlib.Core.Path.{◌≡◌, refl, sym, ap, ap₂, ◌∙◌, subst}
 use mathlib.Core.Bool.{Bool, cond}
 use mathlib.Core.List.{List, [], ◌∷◌}
 use Prim.Native.Nat.{ℕ, zero, suc, ◌+◌, ◌-◌, ◌≤◌, ◌<◌}
-use native.Mathlib.Numerals.{add-one}
 use native.Mathlib.Omega.{arith}
 use lib.Dec.{ltb}
-use lib.ListN.{length, get_or, take, drop, set, length-set, drop_of_length-le}
-use lib.Seq.{length-take-le, get_or-set_same, get_or-set_other, get_or-take}
+use lib.ListN.{length, get_or, take, drop, set, length-set}
+use lib.Seq.{get_or-set_same, get_or-set_other}
 use borrow.Author.Tests.{eq-eqb, ne_eqb, lt-ltb, le-ltb}
 use Rattle.catalogue.specs.Catalogue.{follows, begun, rows_down, rows_of}
 use Rattle.catalogue.proofs.BegunRows.{by_order, none_begun, begun_long}
@@ -64,15 +63,12 @@ module _ (cs : List ℕ) (v : ℕ) where
   total_at (w ∷ ws) zero h = refl
   total_at (w ∷ ws) (suc x) h = total_at ws x (omega arith)
 
-  pub total_next : (ws : List ℕ) (n x : ℕ) → n ≤ length ws → x < n →
-      total cs v (drop x (take n ws)) ≡ follow_count cs v (get_or ws x 0) + total cs v (drop (x + 1) (take n ws))
-  total_next ws n x h l =
-      total_at (take n ws) x (omega (arith, length-take-le n ws h))
-      ∙ ap₂ (λ (a b : ℕ). follow_count cs v a + total cs v (drop b (take n ws))) (get_or-take n ws x 0 l) (sym (add-one x))
-
-  pub total_end : (ws : List ℕ) (n x : ℕ) → n ≤ length ws → n ≤ x → total cs v (drop x (take n ws)) ≡ 0
+  -- over the jobs up to a place
+  pub total_take : (ws : List ℕ) (x : ℕ) → x < length ws → total cs v (take (suc x) ws) ≡ total cs v (take x ws) + follow_count cs v (get_or ws x 0)
   unfolding total
-  total_end ws n x h l = ap (total cs v) (drop_of_length-le (take n ws) {i = x} (omega (arith, length-take-le n ws h)))
+  total_take [] x h = absurd (omega arith)
+  total_take (w ∷ ws) zero h = omega arith
+  total_take (w ∷ ws) (suc x) h = omega (arith, total_take ws x (omega arith))
 
 -- THE NUMBERS ARE SMALL, if there are at most 24 jobs
 pub counts_small : (ws : List ℕ) (v : ℕ) (cs : List ℕ) → length ws ≤ 24 → v ≤ 12 → Counts ws v cs → Small v cs
@@ -81,9 +77,6 @@ counts_small ws v cs few h c = record {
   size = c.size;
   few = λ u l. omega (arith, c.at u l, listed_few ws few u, most_rise u 11 (omega arith));
 }
-
-pub counts_all : (v n : ℕ) {ws cs : List ℕ} → v ≡ n → Counts ws v cs → Counts ws n cs
-counts_all v n {ws} {cs} e c = subst (λ (k : ℕ). Counts ws k cs) e c
 
 -- the first number, and one more
 pub counts_first : (ws cs : List ℕ) → length cs ≡ 13 → get_or cs 0 0 ≡ 1 → Counts ws 1 cs

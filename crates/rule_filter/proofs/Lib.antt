@@ -1,2 +1,1 @@
 -- Laws of rules that may agree.
-pub mod MayAgreeing

@@ -2,78 +2,70 @@
 // behind it.
 #![tactic(auto)]
 
-ghost use Rattle.std.specs.Prelude.{◌≡◌, true, List, ℕ, ◌<◌};
+ghost use Rattle.std.specs.Prelude.{◌≡◌, List, ℕ, ◌≤◌, ◌<◌, get_or};
 ghost use Rattle.rules.specs.Places.{rule_count};
+ghost use Rattle.facts.specs.Columns.{jobs_in, bytes_in};
+ghost use Rattle.fingerprints.specs.Fingerprints.{RulePrints};
 ghost use Rattle.remainders.specs.Remainders.{LooksUp};
-ghost use Rattle.rule_filter.specs.RuleFilter.{SamePrint, Printing, MayAgree};
+ghost use Rattle.rule_filter.specs.RuleFilter.{PassesEqual, MayAgree, turned};
 
-use fingerprints::{joined, wide_print};
+use facts::Facts;
+use fingerprints::{Print, Prints, joined};
 use remainders::remainder_norm;
 use rules::{high_differs, low_differs};
 
-// The two jobs, of which `mine` asks and `other` answers; `asks` and `tries` are the places of their first rules. If Y asks, it is
-// forward. The norm is that of the job that asks. The gap is the norm of the tail, value and power are its fingerprint by the old rows, and
-// by these rows it stands in the area from `from` up to `to`: there Y's row goes on behind X's. The hint is the place of the rule that is tried
-// first.
+// The two jobs, of which `mine` asks and `other` answers. If Y asks, it is forward. The norm is that of the job that asks. The gap is the norm of
+// the tail, which has a fingerprint by the old rows, and by these rows it stands among them from `from` up to `to`: there Y's row goes on behind X's.
 #[derive(Clone, Copy)]
 pub struct Pair {
     pub forward: bool,
     pub mine: usize,
     pub other: usize,
-    pub asks: usize,
-    pub tries: usize,
-    pub norm: u64,
-    pub gap: u64,
-    pub value: u64,
-    pub power: u64,
+    pub norm: u16,
+    pub gap: u16,
+    pub tail: Print,
     pub from: usize,
     pub to: usize,
-    pub hint: usize,
 }
 
-// Whether what rule r of Y and rule s of X leave has equal fingerprints, or one of them has none.
-fn same_print(rules: &[u8], prints: &[u32; 300], pair: Pair, r: usize, s: usize) -> bool
-    requires printing { Printing rules.now prints.now pair.value pair.power }
-    requires r_bound { (r < rule_count rules.now) × (s < rule_count rules.now) }
-    ensures { SamePrint rules.now prints.now pair.value pair.power r s → result ≡ true }
+impl Pair {
+    // The same two jobs, of which the other asks.
+    pub fn turned(&self) -> Pair
+        requires { self.now.gap ≤ self.now.norm }
+        ensures { result ≡ turned self.now }
+    {
+        Pair {
+            forward: !self.forward,
+            mine: self.other,
+            other: self.mine,
+            norm: self.norm - self.gap,
+            ..*self
+        }
+    }
+}
+
+// Whether what rule r of Y and rule s of X leave have equal fingerprints, or one of them has none.
+fn same_print(prints: &Prints, tail: Print, r: usize, s: usize) -> bool
+    requires { (r < 252) × (s < 252) }
+    ensures { PassesEqual prints.now tail (get_or prints.now.rules r 0) (get_or prints.now.rules s 0) result }
 {
-    let left = wide_print(prints[48 + r]);
-    let right = wide_print(prints[48 + s]);
-    if left == 0 {
-        return true;
+    match (prints.of_rule(r), prints.of_rule(s)) {
+        (Some(left), Some(right)) => left == joined(right, tail.power, tail.value),
+        _ => true,
     }
-    if right == 0 {
-        return true;
-    }
-    left == 1 + joined(right - 1, pair.power, pair.value)
 }
 
 // Whether rule r of Y and rule s of X may agree: their moves are equal, and what they leave has equal norms and no unequal fingerprints. It
 // is not expanded for that. Few rules that pass the other tests differ in the high byte of the move, so that it is asked last.
-pub fn may_agree(
-    rules: &[u8],
-    sums: &[u16; 252],
-    prints: &[u32; 300],
-    pair: Pair,
-    r: usize,
-    s: usize,
-) -> bool
-    requires by_index { (jobs : ℕ) × ((waiting : List ℕ) × LooksUp jobs rules.now sums.now waiting pair.gap) }
-    requires printing { Printing rules.now prints.now pair.value pair.power }
-    requires r_bound { (r < rule_count rules.now) × (s < rule_count rules.now) }
-    ensures { MayAgree rules.now sums.now prints.now pair.gap pair.value pair.power r s result }
+pub fn may_agree(facts: &Facts, prints: &Prints, pair: &Pair, r: usize, s: usize) -> bool
+    requires looks_up { (waiting : List ℕ) × LooksUp (jobs_in facts.now) (bytes_in facts.now) facts.now.sums waiting pair.now.gap }
+    requires rule_prints { RulePrints (bytes_in facts.now) prints.now }
+    requires are_rules { (r < rule_count (bytes_in facts.now)) × (s < rule_count (bytes_in facts.now)) }
+    ensures { MayAgree (bytes_in facts.now) facts.now.sums prints.now pair.now r s result }
 {
-    if low_differs(rules, r, s) {
-        return false;
-    }
-    if remainder_norm(sums, r, 0) != remainder_norm(sums, s, pair.gap) {
-        return false;
-    }
-    if same_print(rules, prints, pair, r, s) {
-        if high_differs(rules, r, s) {
-            return false;
-        }
-        return true;
-    }
-    false
+    let rules = facts.table.rules;
+    !low_differs(rules, r, s)
+        && remainder_norm(facts, r, 0) == remainder_norm(facts, s, pair.gap)
+        && same_print(prints, pair.tail, r, s)
+        && !high_differs(rules, r, s)
 }

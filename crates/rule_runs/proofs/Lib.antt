@@ -1,2 +1,3 @@
 -- Laws of runs that are put together.
 pub mod RunWalk
+pub mod KeptRuns

@@ -4,3 +4,5 @@ pub mod ListLaws
 pub mod Zeros
 pub mod PlaceBack
 pub mod ChangedPlaces
+pub mod TwoBytes
+pub mod Greatest

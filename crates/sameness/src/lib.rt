@@ -2,45 +2,52 @@
 // workspace, and leaves the part that may be used cleared.
 #![tactic(auto)]
 
+ghost use Rattle.answer.specs.Answer.{answered};
 ghost use Rattle.sameness.specs.SamenessCalls.{Compared, ComparedAlike, Comparing};
 
-use answer::or_else;
+use answer::Refusal;
 
 // The answer of compare, worked out in the workspace. What that leaves there is gone once the workspace is cleared.
-fn compare_in(image: &[u8], alike: &[u8], left: &[u8], right: &[u8], space: &mut [u8]) -> i32
-    ensures { Comparing image.now alike.now left.now right.now space.old result space.new }
+fn compare_in(
+    image: &[u8],
+    alike: &[u8],
+    left: &[u8],
+    right: &[u8],
+    space: &mut [u8],
+) -> Result<u16, Refusal>
+    ensures { Comparing image.now alike.now left.now right.now space.old (answered result) space.new }
 {
-    let mut table = table::load(image);
-    let own = table.refusal;
-    let end = table.end;
-    let of_table = replacing::replace(own, end, &mut table.rules, alike);
-    let norms = table.norms;
-    let of_plans = refusal::plans_refusal(table.jobs, &norms, left, right);
-    let refusal = or_else(workspace::refusal(space), or_else(of_table, of_plans));
-    if refusal != 0 {
-        return answer::refused(refusal);
-    }
-    answer::one_if(engine::same(
-        table.jobs,
-        table::rules_of(&table.rules, end),
-        &norms,
-        left,
-        right,
-        &mut space[0..24576],
-    ))
+    workspace::check(space)?;
+    let mut held = table::read(image)?;
+    replacing::replace(&mut held, alike)?;
+    let table = held.normed();
+    refusal::check_plans(&table, left, right)?;
+    let same = engine::are_same(&table, left, right, &mut space[0..24576]);
+    Ok(u16::from(same))
 }
 
 // 1 for two plans that are the same under a list, 0 for two that are apart.
-pub fn compare_alike(image: &[u8], alike: &[u8], left: &[u8], right: &[u8], space: &mut [u8]) -> i32
-    ensures { ComparedAlike image.now alike.now left.now right.now space.old result space.new }
+pub fn compare_plans_alike(
+    image: &[u8],
+    alike: &[u8],
+    left: &[u8],
+    right: &[u8],
+    space: &mut [u8],
+) -> Result<u16, Refusal>
+    ensures { ComparedAlike image.now alike.now left.now right.now space.old (answered result) space.new }
 {
     let answer = compare_in(image, alike, left, right, space);
-    workspace::leave(answer, space)
+    workspace::finish(answer, space)
 }
 
 // 1 for two plans that are the same, 0 for two that are apart.
-pub fn compare(image: &[u8], left: &[u8], right: &[u8], space: &mut [u8]) -> i32
-    ensures { Compared image.now left.now right.now space.old result space.new }
+pub fn compare_plans(
+    image: &[u8],
+    left: &[u8],
+    right: &[u8],
+    space: &mut [u8],
+) -> Result<u16, Refusal>
+    ensures { Compared image.now left.now right.now space.old (answered result) space.new }
 {
-    compare_alike(image, &image[0..0], left, right, space)
+    compare_plans_alike(image, &[], left, right, space)
 }

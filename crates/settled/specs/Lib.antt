@@ -1,2 +1,2 @@
 -- Jobs whose new row is their old one.
-pub mod Settled
+pub mod SettledJobs

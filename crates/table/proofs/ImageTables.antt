@@ -1,20 +1,19 @@
 -- AN IMAGE IS A SOURCE OF TABLES: refused by its layout, or by its table as any other list of rules; its table, once it passes, is
 -- accepted. Assumes nothing.
-use mathlib.Core.Path.{◌≡◌, refl, sym, subst}
+use mathlib.Core.Path.{◌≡◌, refl}
 use mathlib.Core.List.{List}
 use Prim.Native.Nat.{ℕ, ◌*◌}
 use native.Mathlib.Omega.{arith}
-use lib.ListN.{length, take}
-use Rattle.bpa.specs.Plans.{Table}
+use lib.ListN.{take}
 use Rattle.rules.specs.Places.{table_of}
 use Rattle.rules.proofs.ListLaws.{table_closed}
-use Rattle.answer.proofs.RefusalChains.{stops, passed_first, neither}
+use Rattle.answer.proofs.RefusalChains.{passed_first, neither}
 use Rattle.refusal.specs.Refusals.{table_refusal, Closed, Accepted}
 use Rattle.refusal.proofs.TableRefusals.{accepted_table}
 use Rattle.image.specs.Image.{layout_refusal, image_refusal, image_jobs, image_places, table_in}
 use Rattle.image.specs.Reading.{HoldsTable}
 use Rattle.image.proofs.ImageList.{image_good_list}
-use Rattle.table.specs.Tables.{HoldsRules, Loads}
+use Rattle.table.specs.Tables.{HoldsRules}
 
 pub image_closed : (bs : List ℕ) → layout_refusal bs ≡ 0 → Closed (table_in bs)
 unfolding table_in
@@ -32,17 +31,6 @@ layout_passed bs h = passed_first (layout_refusal bs) (table_refusal (table_in b
 pub image_table : (bs : List ℕ) → image_refusal bs ≡ 0 → Accepted (table_in bs)
 image_table bs h = let (l, t) = image_passes bs h in accepted_table (table_in bs) (image_closed bs l) t
 
-pub layout_refused : (bs : List ℕ) {r : ℕ} (rules ns : List ℕ) → r ≡ layout_refusal bs → (r ≡ 0 → ⊥) → length rules ≡ 2016 →
-    Loads (image_refusal bs) (table_in bs) r 0 0 rules ns
-unfolding image_refusal
-layout_refused bs rules ns e h k = record {
-  refusal_is = stops (table_refusal (table_in bs)) e h;
-  few = omega arith;
-  inside = omega arith;
-  size = k;
-  holds = λ z. absurd (h z);
-}
-
 module _ (bs : List ℕ) (passed : layout_refusal bs ≡ 0) {jobs count : ℕ} {rules : List ℕ} (h : HoldsTable bs jobs count rules) where
   pub image_rules : HoldsRules jobs (8 * count) rules
   image_rules = record {
@@ -51,13 +39,6 @@ module _ (bs : List ℕ) (passed : layout_refusal bs ≡ 0) {jobs count : ℕ} {
     list = rw (h.jobs_are, h.holds) (image_good_list bs passed);
   }
 
-  same_table : table_of jobs (take (8 * count) rules) ≡ table_in bs
+  pub same_table : table_of jobs (take (8 * count) rules) ≡ table_in bs
   unfolding table_in
   same_table = rw (h.jobs_are, h.holds) refl
-
-  pub image_loads : {r n e : ℕ} {rs ns : List ℕ} →
-      Loads (table_refusal (table_of jobs (take (8 * count) rules))) (table_of jobs (take (8 * count) rules)) r n e rs ns →
-      Loads (image_refusal bs) (table_in bs) r n e rs ns
-  image_loads {r} {n} {e} {rs} {ns} l =
-      subst (λ (f : ℕ). Loads f (table_in bs) r n e rs ns) (sym (layout_passed bs passed))
-      (subst (λ (t : Table). Loads (table_refusal t) t r n e rs ns) same_table l)

@@ -2,3 +2,5 @@
 pub mod ListTables
 pub mod ImageTables
 pub mod HeldTables
+pub mod SourceTables
+pub mod AcceptedPlans

@@ -1,3 +1,4 @@
 -- Tables as the calls use them.
 pub mod Tables
 pub mod CallRefusals
+pub mod Sources

@@ -1,2 +1,3 @@
 -- Laws of words.
 pub mod PutWords
+pub mod WordBytes

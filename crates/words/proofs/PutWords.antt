@@ -1,6 +1,6 @@
 -- Words put into bytes are read back as they were, and other bytes stay. Assumes nothing.
 use mathlib.Core.Path.{◌≡◌, refl, ap, ap₂, ◌∙◌}
-use mathlib.Core.List.{List, ◌++◌, append_assoc}
+use mathlib.Core.List.{List, ◌++◌}
 use Prim.Native.Nat.{ℕ, ◌+◌, ◌*◌, ◌/◌, ◌%◌, ◌-◌, ◌≤◌, ◌<◌}
 use native.Mathlib.Omega.{arith}
 use native.Mathlib.Nat.{div-div-eq-div-mul, mod-eq_of_lt}
@@ -8,7 +8,6 @@ use lib.ListN.{length, get_or, take, drop, length-append, get_or-append}
 use lib.Seq.{length-take-le, get_or-append-add, get_or-drop, get_or-take}
 use Rattle.area.specs.Areas.{put}
 use Rattle.area.specs.Numbers.{low_first}
-use Rattle.area.proofs.PutLaws.{put_put}
 use Rattle.words.specs.Words.{word_at, word_bytes}
 
 -- A BYTE of an area with new bytes: one of the new, or what was there
@@ -133,17 +132,3 @@ module _ (i : ℕ) (front rest xs : List ℕ) (v : ℕ) (fits : i + length (fron
 pub eight : (v : ℕ) → length (word_bytes v) ≡ 8
 unfolding word_bytes low_first
 eight v = refl
-
--- FOUR NUMBERS of two bytes each, put one behind the other
-pub put_four : (i : ℕ) (a b c d xs : List ℕ) → length a ≡ 2 → length b ≡ 2 → length c ≡ 2 → i ≤ length xs →
-    put (i + 6) d (put (i + 4) c (put (i + 2) b (put i a xs))) ≡ put i (a ++ (b ++ (c ++ d))) xs
-put_four i a b c d xs x y z h =
-    let two = a ++ b in
-    let three = two ++ c in
-    let e : i + 2 ≡ i + length a = omega (arith, x) in
-    let f : i + 4 ≡ i + length two = omega (arith, x, y, length-append a b) in
-    let g : i + 6 ≡ i + length three = omega (arith, x, y, z, length-append a b, length-append two c) in
-    ap₂ (λ (n : ℕ) (l : List ℕ). put n d l) g
-    (ap₂ (λ (n : ℕ) (l : List ℕ). put n c l) f (ap (λ (n : ℕ). put n b (put i a xs)) e ∙ put_put i a b xs h) ∙ put_put i two c xs h)
-    ∙ put_put i three d xs h
-    ∙ ap (λ (l : List ℕ). put i l xs) (append_assoc two c d ∙ append_assoc a b (c ++ d))

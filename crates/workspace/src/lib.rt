@@ -2,11 +2,14 @@
 #![tactic(auto)]
 
 ghost use Rattle.std.specs.Prelude.{◌≡◌};
-ghost use Rattle.answer.specs.Refusals.{space_refusal};
+ghost use Rattle.answer.specs.Refusals.{refusal_of, space_refusal};
 ghost use Rattle.answer.specs.Answer.{space_after};
 ghost use Rattle.workspace.specs.Usable as part;
 
+use answer::Refusal;
+
 // How many bytes a call may use: the first 65,536, or none of a workspace that is too short.
+#[tactic(auto, unfolding(crate::specs::Usable::usable, answer::specs::Refusals::space_size))]
 fn usable(space: &[u8]) -> usize
     ensures { result ≡ part.usable space.now }
 {
@@ -17,16 +20,17 @@ fn usable(space: &[u8]) -> usize
 }
 
 // Refusal 1.
-pub fn refusal(space: &[u8]) -> u8
-    ensures { result ≡ space_refusal space.now }
+pub fn check(space: &[u8]) -> Result<(), Refusal>
+    ensures { refusal_of result ≡ space_refusal space.now }
 {
     if usable(space) == 0 {
-        return 1;
+        return Err(Refusal::WorkspaceShort);
     }
-    0
+    Ok(())
 }
 
 // Zeros in the part that may be used. Later bytes are left.
+#[tactic(auto, using(crate::proofs::UsablePart::usable_inside, crate::proofs::UsablePart::part_cleared))]
 fn clear(space: &mut [u8])
     ensures { space.new ≡ space_after space.old }
 {
@@ -35,7 +39,7 @@ fn clear(space: &mut [u8])
 }
 
 // The end of every call with a workspace, a refused one too: the workspace is cleared, and the answer given.
-pub fn leave(answer: i32, space: &mut [u8]) -> i32
+pub fn finish(answer: Result<u16, Refusal>, space: &mut [u8]) -> Result<u16, Refusal>
     ensures { (result ≡ answer) × (space.new ≡ space_after space.old) }
 {
     clear(space);

@@ -1,0 +1,2 @@
+-- The checks over blocks.
+pub mod Chunks

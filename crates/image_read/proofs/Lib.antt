@@ -1,0 +1,3 @@
+-- What the reader holds on its way through an image.
+pub mod ReadSoFar
+pub mod TakenBlock

@@ -1,0 +1,2 @@
+-- The bytes of a move.
+pub mod MoveBytes

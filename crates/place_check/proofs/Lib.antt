@@ -1,0 +1,2 @@
+-- The checks of places by std's words.
+pub mod Chunks

@@ -1,0 +1,37 @@
+-- `plans::shortest_run` meets its contract. Assumes nothing.
+use Rattle.std.proofs.Common.{◌≡◌, ◌∙◌, rules}
+use Rattle.answer.proofs.RefusalChains.{both_pass}
+use Rattle.answer.proofs.ResultChains.{handed, err_stops, ok_passes, ok_goes_on}
+use Rattle.answer.proofs.Answered.{writes_err, writes_ok}
+use Rattle.table.proofs.AcceptedPlans.{seen, good, plan_checked, plan_ready}
+use Rattle.plans.proofs.shortest_run.Goals as goal
+
+pub returns-in_err-held : goal.returns-in_err-held
+returns-in_err-held c =
+    writes_err c.from_residual.result (err_stops c.read.result _ _ _ c.in_err-held.was (search rules) c.read.ensures.refusal_is) c.in_err-held.field-0.0 (search rules)
+
+pub returns-in_err-check_plan : goal.returns-in_err-check_plan
+returns-in_err-check_plan c =
+    let t = seen c.read.ensures _ c.in_ok-held.was c.normed-table.result c.normed-table.ensures.jobs c.normed-table.ensures.rules in
+    let r = c.from_residual-in_err-check_plan.result in
+    let k = plan_checked c.normed-table.result t c.check_plan.result c.args.plan.now c.check_plan.ensures in
+    writes_err r (ok_goes_on c.read.result _ r c.in_ok-held.was c.read.ensures.refusal_is (handed c.check_plan.result r _ c.in_err-check_plan.was (search rules) k))
+    c.in_err-check_plan.field-0.0 (search rules)
+
+pub first_run-requires-clause-plan_value : goal.first_run-requires-clause-plan_value
+first_run-requires-clause-plan_value c =
+    let t = seen c.read.ensures _ c.in_ok-held.was c.normed-table.result c.normed-table.ensures.jobs c.normed-table.ensures.rules in
+    (plan_ready c.normed-table.result t c.check_plan.result c.args.plan.now c.check_plan.ensures _ c.in_ok-check_plan.was).over_table
+
+pub first_run-requires-clause-plan_bound : goal.first_run-requires-clause-plan_bound
+first_run-requires-clause-plan_bound c =
+    let t = seen c.read.ensures _ c.in_ok-held.was c.normed-table.result c.normed-table.ensures.jobs c.normed-table.ensures.rules in
+    (plan_ready c.normed-table.result t c.check_plan.result c.args.plan.now c.check_plan.ensures _ c.in_ok-check_plan.was).norm_small
+
+pub returns : goal.returns
+returns c =
+    let t = seen c.read.ensures _ c.in_ok-held.was c.normed-table.result c.normed-table.ensures.jobs c.normed-table.ensures.rules in
+    let k = plan_checked c.normed-table.result t c.check_plan.result c.args.plan.now c.check_plan.ensures in
+    writes_ok c.first_run.result
+    (both_pass _ _ (ok_passes c.read.result _ c.in_ok-held.was c.read.ensures.refusal_is) (ok_passes c.check_plan.result _ c.in_ok-check_plan.was k))
+    (rw t at c.first_run.ensures)

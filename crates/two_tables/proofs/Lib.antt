@@ -1,0 +1,2 @@
+-- Laws of calls about two tables.
+pub mod JoinedCalls
