@@ -28,14 +28,7 @@ loop-k-init c =
     let w = whole_pairs c.args.list.now c.requires (ok_passes c.check_length.result _ c.in_ok-check_length.was c.check_length.ensures) in
     (w, rw c.move_at-froms.ensures.is (read_begin w))
 
--- a from-move stands twice
-pub returns-then-stands-clause-refusal : goal.returns-then-stands-clause-refusal
-unfolding refusal_of number
-returns-then-stands-clause-refusal c =
-    let (w, s) = c.loop-k.invariant in
-    twice_refused c.args.list.now c.requires (ok_passes c.check_length.result _ c.in_ok-check_length.was c.check_length.ensures)
-    (stands_twice w s (omega arith) c.move_at-from.result c.move_at-from.ensures.is (omega arith) (sym c.stands.ensures ∙ c.if-stands.true))
-
+-- before the two refusals, so that a pair that is wrongly let in fails here
 pub loop-k-preserved : goal.loop-k-preserved
 loop-k-preserved c =
     let (w, s) = c.loop-k.invariant in
@@ -46,6 +39,14 @@ loop-k-preserved c =
       | else-k-gt0-via-else-k-gt0 v ↦ absurd (omega (arith, v.if-k-gt0.false))
     ]) in
     (w, read_next w s (omega arith) a.result a.ensures.is new c.move_at.result c.move_at.ensures.is c.move_at.ensures.small)
+
+-- a from-move stands twice
+pub returns-then-stands-clause-refusal : goal.returns-then-stands-clause-refusal
+unfolding refusal_of number
+returns-then-stands-clause-refusal c =
+    let (w, s) = c.loop-k.invariant in
+    twice_refused c.args.list.now c.requires (ok_passes c.check_length.result _ c.in_ok-check_length.was c.check_length.ensures)
+    (stands_twice w s (omega arith) c.move_at-from.result c.move_at-from.ensures.is (omega arith) (sym c.stands.ensures ∙ c.if-stands.true))
 
 -- a from-move stands as a to-move
 pub returns-then-stands-2-clause-refusal : goal.returns-then-stands-2-clause-refusal

@@ -22,6 +22,14 @@ returns-then-is_empty-clause-replaced c =
 pub returns-in_err-pairs-clause-refusal : goal.returns-in_err-pairs-clause-refusal
 returns-in_err-pairs-clause-refusal c = handed_on c.read_list.result _ _ c.in_err-pairs.was (search rules) c.read_list.ensures.refusal
 
+-- before the rest, so that a move that is replaced otherwise fails here
+pub returns-clause-replaced : goal.returns-clause-replaced
+returns-clause-replaced c = table_is c.args.table.now c.in_ok-pairs.ensures.pairs c.replace_moves.ensures (omega arith)
+
+pub returns-clause-refusal : goal.returns-clause-refusal
+unfolding refusal_of
+returns-clause-refusal c = sym (ap refusal_of c.in_ok-pairs.was) ∙ c.read_list.ensures.refusal
+
 pub invariant_of-table : goal.invariant_of-table
 invariant_of-table c =
     let h = c.args.table.now in
@@ -31,10 +39,3 @@ invariant_of-table c =
       exact = norms_stay h c.in_ok-pairs.ensures.pairs c.replace_moves.ensures (omega arith);
       finite = h.finite;
     }
-
-pub returns-clause-refusal : goal.returns-clause-refusal
-unfolding refusal_of
-returns-clause-refusal c = sym (ap refusal_of c.in_ok-pairs.was) ∙ c.read_list.ensures.refusal
-
-pub returns-clause-replaced : goal.returns-clause-replaced
-returns-clause-replaced c = table_is c.args.table.now c.in_ok-pairs.ensures.pairs c.replace_moves.ensures (omega arith)
