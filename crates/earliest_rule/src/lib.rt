@@ -9,10 +9,15 @@ ghost use Rattle.least_moves.specs.Chains.{ChainFrom};
 use move_order::comes_before;
 use rule_runs::{Kept, make_run};
 
+// The moves of a list's rules are numbers of two bytes. A function of its own: that bytes are below 256 the check knows of those that are a
+// parameter, and not of those that are lent in a struct.
+fn two_byte_moves(rules: &[u8])
+    ensures { (i : ℕ) → i < rule_count rules.now → (rule_at rules.now i).move < 65536 }
+{}
+
 // The rule of a job by which its first run begins; the first rule of its chain is given.
 pub fn first_rule(kept: &Kept, next: &[u8; 252], start: usize) -> usize
     requires chain_from { ChainFrom kept.now.table.rules.now kept.now.table.norms.now next.now (rule_at kept.now.table.rules.now start).job start }
-    requires moves { (i : ℕ) → i < rule_count kept.now.table.rules.now → (rule_at kept.now.table.rules.now i).move < 65536 }
     requires known { get_or kept.now.table.norms.now (rule_at kept.now.table.rules.now start).job 0 ≤ kept.now.below }
     ensures { Picks kept.now.table.jobs kept.now.table.rules.now kept.now.table.norms.now (rule_at kept.now.table.rules.now start).job result }
 {
@@ -25,6 +30,7 @@ pub fn first_rule(kept: &Kept, next: &[u8; 252], start: usize) -> usize
     let mut made = [0u8; 1024];
     let mut rule = start;
     let n = make_run(kept, start, &mut best, 0);
+    two_byte_moves(kept.table.rules);
     // along the chain of its rules, which no range goes over
     while i < total {
         make_run(kept, i, &mut made, 0);

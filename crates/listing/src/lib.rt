@@ -12,7 +12,7 @@ use answer::Refusal;
 use engine::refined_rows;
 use form_weights::weights;
 use norm::Normed;
-use nth_row::nth_row;
+use nth_row::find_row;
 use nth_row::row::Row;
 use row_counts::counts;
 use rows::Rows;
@@ -54,5 +54,5 @@ pub fn list(
     let weights = weights(table, &rows);
     let weights = &weights[..table.jobs];
     let counts = counts(weights, norm);
-    put_answer(counts[norm], nth_row(weights, &counts, norm, index), out)
+    put_answer(counts[norm], find_row(weights, &counts, norm, index), out)
 }

@@ -35,16 +35,13 @@ fn choose(weights: &[usize], counts: &[u64; 13], whole: usize, index: u64) -> Ch
     unreachable!()
 }
 
-// The row of a weight at an index, if there are so many.
-pub fn nth_row(weights: &[usize], counts: &[u64; 13], weight: usize, index: u64) -> Option<Row>
+// The row of a weight at an index.
+pub fn nth_row(weights: &[usize], counts: &[u64; 13], weight: usize, index: u64) -> Row
     requires few { (length weights.now ≤ 24) × (weight ≤ 12) }
     requires counted { Counts weights.now (weight + 1) counts.now }
-    ensures none { IsNone result ↔ (length (rows_of weights.now weight) ≤ index) }
-    ensures row { IfSome result (IsRow (rows_of weights.now weight) index) }
+    requires inside { index < length (rows_of weights.now weight) }
+    ensures { IsRow (rows_of weights.now weight) index result }
 {
-    if counts[weight] <= index {
-        return None;
-    }
     let mut jobs = [0; 12];
     let mut len = 0;
     let mut left = weight;
@@ -57,5 +54,18 @@ pub fn nth_row(weights: &[usize], counts: &[u64; 13], weight: usize, index: u64)
         left -= weights[choice.job];
         k = choice.index;
     }
-    Some(Row { jobs, len })
+    Row { jobs, len }
+}
+
+// The row of a weight at an index, if there are so many.
+pub fn find_row(weights: &[usize], counts: &[u64; 13], weight: usize, index: u64) -> Option<Row>
+    requires few { (length weights.now ≤ 24) × (weight ≤ 12) }
+    requires counted { Counts weights.now (weight + 1) counts.now }
+    ensures none { IsNone result ↔ (length (rows_of weights.now weight) ≤ index) }
+    ensures row { IfSome result (IsRow (rows_of weights.now weight) index) }
+{
+    if counts[weight] <= index {
+        return None;
+    }
+    Some(nth_row(weights, counts, weight, index))
 }

@@ -101,7 +101,7 @@ module _ (c : After-make_run) where
   same_order : Before (numbers_in (take size made)) (numbers_in (take size c.loop-i.best))
       ≡ Before (run_by (n kept next start) (rs kept next start) i) (run_by (n kept next start) (rs kept next start) c.loop-i.rule)
   same_order =
-      let back = run_back (n kept next start) (rs kept next start) (ns kept next start) (good kept) c.requires.moves in
+      let back = run_back (n kept next start) (rs kept next start) (ns kept next start) (good kept) c.two_byte_moves.ensures in
       ap₂ Before (ap numbers_in new ∙ back i low.place) (ap numbers_in choosing.run ∙ back c.loop-i.rule choosing.own.lowers.place)
 
   kept_on : (Before (run_by (n kept next start) (rs kept next start) i) (run_by (n kept next start) (rs kept next start) c.loop-i.rule) → ⊥) →

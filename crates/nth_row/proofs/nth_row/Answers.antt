@@ -27,7 +27,7 @@ loop-left-preserved c =
     writing_next _ c.args.weight c.args.index _ l.len l.left l.k l.invariant (omega arith) c.args.counts.now c.requires.counted c.loop-left-test.true
     c.choose-choice.result c.choose-choice.ensures
 
-pub returns-clause-row : goal.returns-clause-row
-returns-clause-row c =
+pub returns : goal.returns
+returns c =
     let l = c.loop-left in
     writing_end _ c.args.weight c.args.index _ l.len l.left l.k l.invariant (omega arith) (omega arith)
