@@ -64,12 +64,20 @@ impl<'a> Question<'a> {
         ensures { IsTrue result ↔ Agrees self.now r s }
     {
         let (y, x) = led(self.pair.forward, r, s);
-        if !may_agree(self.facts, self.prints, &self.pair, y, x) {
+        let table = &self.facts.table;
+        if !may_agree(table.rules, &self.facts.sums, self.prints, &self.pair, y, x) {
             return false;
         }
-        let falls = remainder_norm(self.facts, r, 0) < self.pair.norm;
+        let falls = remainder_norm(&self.facts.sums, r, 0) < u64::from(self.pair.norm);
         left_equal(
-            self.facts, &self.old, &self.new, self.parts, &self.pair, falls, y, x,
+            &table.list(),
+            &self.old,
+            &self.new,
+            self.parts,
+            &self.pair,
+            falls,
+            y,
+            x,
         )
     }
 

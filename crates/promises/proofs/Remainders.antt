@@ -24,7 +24,10 @@ use Rattle.promises.specs.Remainders as promised
 
 pub rows_normed : promised.RowsNormed
 unfolding promised.RowsNormed
-rows_normed facts i h = let t = tables facts in row_norm (row_looks t.list t.good t.row_norms) i h
+rows_normed = (
+  λ jobs rs norms sums i list good row_norms h. row_norm (row_looks list good row_norms) i h,
+  λ facts i h. let t = tables facts in row_norm (row_looks t.list t.good t.row_norms) i h,
+)
 
 pub remainders_normed : promised.RemaindersNormed
 unfolding promised.RemaindersNormed

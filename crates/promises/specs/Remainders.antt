@@ -1,11 +1,13 @@
 -- What is promised of the norms that the rounds look up: statements, each a field of EveryPromise and proved by a term of its name in small
--- letters. They are over what the contracts of the functions that look ask and give (`refining::refine`, `remainders::remainder_norm`
--- and `rule_filter::may_agree`). A remainder is what a rule leaves, with the jobs that wait behind it. Assumes nothing.
+-- letters. They are over what the functions that look ask and give: the contracts of `remainders::remainder_norm` and `rule_filter::may_agree`,
+-- and `facts::Facts`, which `refining::refine` is given. A remainder is what a rule leaves, with the jobs that wait behind it. Assumes nothing.
 use Rattle.std.specs.Prelude.{◌≡◌, Bool, true, false, List, [], ◌∷◌, ◌++◌, ℕ, ◌<◌, get_or}
 use Rattle.bpa.specs.Plans.{Table, over}
-use Rattle.bpa.specs.Norms.{Fewest}
+use Rattle.bpa.specs.Norms.{Fewest, Good}
 use Rattle.bpa.specs.Bisimilar.{AnyBisimulation}
 use Rattle.rules.specs.Places.{rule_at, rule_count, table_of}
+use Rattle.rules.specs.Lists.{GoodList}
+use Rattle.prepare.specs.Prepared.{RowNorms}
 use Rattle.refusal.specs.Refusals.{Closed}
 use Rattle.facts.specs.declared.Facts.{Facts}
 use Rattle.facts.specs.Columns.{bytes_in, table_by}
@@ -14,11 +16,14 @@ use Rattle.remainders.specs.Remainders.{LooksUp, LookedUp}
 use Rattle.rule_filter.specs.declared.Pair.{Pair}
 use Rattle.rule_filter.specs.RuleFilter.{MayAgree}
 
--- the numbers that the rounds are given: each is the fewest moves from the row of its rule to the empty plan
+-- numbers for rules' rows: each is the fewest moves from the row of its rule to the empty plan, whatever norms they were made by, if the table is
+-- good by these; and so is each number that the rounds are given
 unfoldable pub RowsNormed : Type 0
 RowsNormed =
-    (facts : Facts) (i : ℕ) → i < rule_count (bytes_in facts) →
-    Fewest (table_by facts) (rule_at (bytes_in facts) i).after (get_or facts.sums i 0)
+    ((jobs : ℕ) (rs norms sums : List ℕ) (i : ℕ) → GoodList jobs rs → Good (table_of jobs rs) norms → RowNorms rs norms sums →
+    i < rule_count rs → Fewest (table_of jobs rs) (rule_at rs i).after (get_or sums i 0))
+    × ((facts : Facts) (i : ℕ) → i < rule_count (bytes_in facts) →
+    Fewest (table_by facts) (rule_at (bytes_in facts) i).after (get_or facts.sums i 0))
 
 -- the number that is looked up, with the norm of the jobs that wait: it is the fewest moves from the remainder to the empty plan
 unfoldable pub RemaindersNormed : Type 0

@@ -4,12 +4,10 @@
 
 ghost use Rattle.std.specs.Prelude.{◌≡◌, List, ℕ, ◌≤◌, ◌<◌, get_or};
 ghost use Rattle.rules.specs.Places.{rule_count};
-ghost use Rattle.facts.specs.Columns.{jobs_in, bytes_in};
 ghost use Rattle.fingerprints.specs.Fingerprints.{RulePrints};
 ghost use Rattle.remainders.specs.Remainders.{LooksUp};
 ghost use Rattle.rule_filter.specs.RuleFilter.{PassesEqual, MayAgree, turned};
 
-use facts::Facts;
 use fingerprints::{Print, Prints, joined};
 use remainders::remainder_norm;
 use rules::{high_differs, low_differs};
@@ -57,15 +55,21 @@ fn same_print(prints: &Prints, tail: Print, r: usize, s: usize) -> bool
 
 // Whether rule r of Y and rule s of X may agree: their moves are equal, and what they leave has equal norms and no unequal fingerprints. It
 // is not expanded for that. Few rules that pass the other tests differ in the high byte of the move, so that it is asked last.
-pub fn may_agree(facts: &Facts, prints: &Prints, pair: &Pair, r: usize, s: usize) -> bool
-    requires looks_up { (waiting : List ℕ) × LooksUp (jobs_in facts.now) (bytes_in facts.now) facts.now.sums waiting pair.now.gap }
-    requires rule_prints { RulePrints (bytes_in facts.now) prints.now }
-    requires are_rules { (r < rule_count (bytes_in facts.now)) × (s < rule_count (bytes_in facts.now)) }
-    ensures { MayAgree (bytes_in facts.now) facts.now.sums prints.now pair.now r s result }
+pub fn may_agree(
+    rules: &[u8],
+    sums: &[u16; 252],
+    prints: &Prints,
+    pair: &Pair,
+    r: usize,
+    s: usize,
+) -> bool
+    requires looks_up { (jobs : ℕ) × ((waiting : List ℕ) × LooksUp jobs rules.now sums.now waiting pair.now.gap) }
+    requires rule_prints { RulePrints rules.now prints.now }
+    requires are_rules { (r < rule_count rules.now) × (s < rule_count rules.now) }
+    ensures { MayAgree rules.now sums.now prints.now pair.now r s result }
 {
-    let rules = facts.table.rules;
     !low_differs(rules, r, s)
-        && remainder_norm(facts, r, 0) == remainder_norm(facts, s, pair.gap)
+        && remainder_norm(sums, r, 0) == remainder_norm(sums, s, u64::from(pair.gap))
         && same_print(prints, pair.tail, r, s)
         && !high_differs(rules, r, s)
 }

@@ -2,7 +2,6 @@
 use Rattle.std.proofs.Common.{drop}
 use Rattle.area.proofs.Parts.{middle_part, rest_part}
 use Rattle.rows.specs.Rows.{rows_of}
-use Rattle.facts.specs.Columns.{bytes_in}
 use Rattle.equal_remainders.specs.EqualRemainders.{rows_for, rest_for}
 use Rattle.equal_remainders.proofs.ComparedRemainders.{afters_tell}
 use Rattle.equal_remainders.proofs.left_equal.Goals as goal
@@ -12,7 +11,7 @@ unfolding rows_for rest_for
 returns-then-falls c =
     let a = c.args in
     rw c.if-falls.true
-    (afters_tell (rows_of a.new.now) (bytes_in a.facts.now) _ (drop 1 a.parts.now) _ a.r a.s _ _ c.equal_forms.result c.list-rules.ensures.1
+    (afters_tell (rows_of a.new.now) a.rules.now.bytes.now (drop 1 a.parts.now) _ a.r a.s _ _ c.equal_forms.result
     c.after-left.ensures.after c.after-right.ensures.after (rest_part a.parts.now 1) c.equal_forms.ensures)
 
 pub returns-else-falls : goal.returns-else-falls
@@ -20,6 +19,6 @@ unfolding rows_for rest_for
 returns-else-falls c =
     let a = c.args in
     rw c.if-falls.false
-    (afters_tell (rows_of a.old.now) (bytes_in a.facts.now) _ _ _ a.r a.s _ _ c.equal_forms-else-falls.result c.list-rules.ensures.1
+    (afters_tell (rows_of a.old.now) a.rules.now.bytes.now _ _ a.r a.s _ _ c.equal_forms-else-falls.result
     c.after-left.ensures.after c.after-right.ensures.after (middle_part a.old.now.bytes.now a.pair.now.from a.pair.now.to c.requires.both_rows.starts)
     c.equal_forms-else-falls.ensures)
