@@ -1,2 +1,3 @@
 -- Laws of plans over two tables.
 pub mod PlansBetween
+pub mod NumberedPlans

@@ -4,3 +4,4 @@ pub mod RenumberedPlaces
 pub mod AppendedBytes
 pub mod JoinedLists
 pub mod JoinedSources
+pub mod JoinedResults

@@ -1,2 +1,3 @@
 -- Tables joined, as bytes.
 pub mod JoinedBytes
+pub mod JoinedResults

@@ -1,7 +1,7 @@
 // A second table joined to the one that a call holds: its jobs are numbered on from the first's.
 #![tactic(auto)]
 
-ghost use Rattle.std.specs.Prelude.{◌≡◌, true, cond, OnOk, ◌+◌, ◌-◌, ◌≤◌, ◌<◌, length};
+ghost use Rattle.std.specs.Prelude.{◌≡◌, true, cond, OnOk, ◌+◌, ◌-◌, ◌≤◌, ◌<◌, length, take};
 ghost use Rattle.answer.specs.Refusals.{refusal_of};
 ghost use Rattle.area.specs.Areas as areas;
 ghost use Rattle.bpa.specs.Plans.{all_below};
@@ -86,11 +86,13 @@ fn join_norms(norms: &mut [u16; 24], jobs: usize, others: &[u16; 24])
     norms[jobs..].copy_from_slice(&others[..24 - jobs]);
 }
 
-// Joins a second table to the first, if both are few enough together.
+// Joins a second table to the first, if both are few enough together. The bytes behind the rules of both stay.
 pub fn join(table: &mut HeldTable, other: &HeldTable)
     requires jobs { table.old.jobs + other.now.jobs ≤ 24 }
     requires rules { table.old.end + other.now.end ≤ 2016 }
     ensures jobs { table.new.jobs ≡ table.old.jobs + other.now.jobs }
+    ensures end { table.new.end ≡ table.old.end + other.now.end }
+    ensures rules { table.new.rules ≡ areas.put table.old.end (renumbered_places table.old.jobs (take other.now.end other.now.rules)) table.old.rules }
     ensures joined { table_held table.new ≡ joined (table_held table.old) (table_held other.now) }
     ensures norms { JoinsNorms table.old.norms table.old.jobs other.now.norms table.new.norms }
 {

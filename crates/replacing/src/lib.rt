@@ -42,6 +42,8 @@ pub fn replace(table: &mut HeldTable, list: &[u8]) -> Result<(), Refusal>
     ensures refusal { refusal_of result ≡ alike_refusal list.now }
     ensures replaced { OnOk result (table_held table.new ≡ replaced (alike_pairs list.now) (table_held table.old)) }
     ensures refused { OnErr result (table.new ≡ table.old) }
+    ensures jobs { table.new.jobs ≡ table.old.jobs }
+    ensures end { table.new.end ≡ table.old.end }
     ensures norms { table.new.norms ≡ table.old.norms }
 {
     if list.is_empty() {

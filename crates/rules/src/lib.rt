@@ -80,7 +80,7 @@ fn rule_job(rules: &[u8], i: usize) -> usize
 // The move that the rule makes: its low byte is the second of the place, its high byte the last. Outside this crate no
 // function reads a move.
 #[tactic(auto, using(crate::proofs::PlaceLaws::move_at), unfolding(crate::specs::Places::rule_count))]
-fn rule_move(rules: &[u8], i: usize) -> u32
+pub fn rule_move(rules: &[u8], i: usize) -> u32
     requires { i < rule_count rules.now }
     ensures { IsMove (rule_at rules.now i).move result }
 {

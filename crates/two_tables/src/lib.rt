@@ -28,10 +28,9 @@ fn compare_in(
     let of_plans = check_plans(&held.normed(), &other.normed(), left, right);
     let jobs = held.jobs;
     join(&mut held, &other);
-    replacing::replace(&mut held, alike)?;
-    of_plans?;
+    replacing::replace(&mut held, alike).and(of_plans)?;
     let table = held.normed();
-    let same = are_same(&table, jobs, left, right, &mut space[0..28672]);
+    let same = are_same(&table, jobs, left, right, &mut space[0..24576]);
     Ok(u16::from(same))
 }
 
