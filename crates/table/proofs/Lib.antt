@@ -4,3 +4,4 @@ pub mod ImageTables
 pub mod HeldTables
 pub mod SourceTables
 pub mod AcceptedPlans
+pub mod PlanChains
