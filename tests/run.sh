@@ -39,7 +39,7 @@ if [ "$words" -gt 0 ]; then
 fi
 if [ "$words" -gt 1 ]; then
     "${MAKE:-make}" -s ready 2>&1
-    seq 2 "$words" | xargs -P "$(nproc)" -I N sh -c "'$0' --word '$work' N >'$work/out.N' 2>&1" &
+    seq 2 "$words" | xargs -P "$(nproc)" -n 1 sh -c '"$0" --word "$1" "$2" >"$1/out.$2" 2>&1' "$0" "$work" &
     word=2
     while [ "$word" -le "$words" ]; do
         while [ ! -f "$work/done.$word" ] && kill -0 $! 2>/dev/null; do
