@@ -58,7 +58,7 @@ module _ (bs cs : List ℕ) {x x' : Result HeldTable Refusal} (s : Source (image
 -- the number of jobs of a table under a list
 pub same_jobs : (l m : HeldTable) (ls : List ℕ) → table_held m ≡ replaced (alike_pairs ls) (table_held l) → m.jobs ≡ l.jobs
 unfolding table_of replaced
-same_jobs l m ls g = ap (λ (t : Table). t.jobs) g
+same_jobs l m ls g = jobs_of m g
 
 -- the tables of both images, joined
 module _ (bs cs ls : List ℕ) {x z : Result HeldTable Refusal} (s : Source (image_refusal bs) (table_in bs) x) (j : Joins (image_refusal cs) (table_in cs) x z) where
